@@ -1,0 +1,35 @@
+// The number and the detail of each refusal.
+ghost use mathlib.Core.Path.{_≡_};
+ghost use Rattle.recipe.specs.Offence.{numberOf, detailOf};
+use crate::Refusal;
+
+impl Refusal {
+    // The number by which a refusal is known.
+    pub fn number(&self) -> u32
+        ensures { λ r. ⌜ r ≡ numberOf (now (self .entry)) ⌝ }
+    {
+        match self {
+            Refusal::Misplaced { .. } => 1,
+            Refusal::Miscounted { .. } => 2,
+            Refusal::BadMethod { .. } => 3,
+            Refusal::BadNode { .. } => 4,
+            Refusal::BadEdge { .. } => 5,
+            Refusal::BadRow { .. } => 6,
+            Refusal::ShortOutput { .. } => 18,
+        }
+    }
+
+    // Which of them is wrong, counted from 0, or how many bytes are needed.
+    pub fn detail(&self) -> u32
+        ensures { λ r. ⌜ r ≡ detailOf (now (self .entry)) ⌝ }
+    {
+        match *self {
+            Refusal::Misplaced { entry } | Refusal::Miscounted { entry } => entry,
+            Refusal::BadMethod { method } => method,
+            Refusal::BadNode { node } => node,
+            Refusal::BadEdge { edge } => edge,
+            Refusal::BadRow { row } => row,
+            Refusal::ShortOutput { needed } => needed,
+        }
+    }
+}
