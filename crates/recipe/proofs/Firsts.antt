@@ -35,6 +35,13 @@ offence-append (t ∷ xs) ys = step (t .0) (t .1) (offence-append xs ys)
     step true r h = h
     step false r h = refl
 
+-- the first list's offence comes first; where it has none, the second's does
+pub first-of-two : (xs ys : List (Bool × Refusal)) (r : Refusal) → firstOffence xs ≡ Some r → firstOffence (xs ++ ys) ≡ Some r
+first-of-two xs ys r e = offence-append xs ys ∙ ap (λ o. orOther o (firstOffence ys)) e
+
+pub second-of-two : (xs ys : List (Bool × Refusal)) → firstOffence xs ≡ None → firstOffence (xs ++ ys) ≡ firstOffence ys
+second-of-two xs ys e = offence-append xs ys ∙ ap (λ o. orOther o (firstOffence ys)) e
+
 -- where nothing is refused of two lists, nothing is refused of either
 pub none-of-both : (xs ys : List (Bool × Refusal)) → firstOffence (xs ++ ys) ≡ None → (firstOffence xs ≡ None) × (firstOffence ys ≡ None)
 none-of-both xs ys e = split (firstOffence xs) refl

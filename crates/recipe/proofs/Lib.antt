@@ -1,3 +1,4 @@
 pub mod Firsts
 pub mod Pieces
 pub mod Places
+pub mod Tables

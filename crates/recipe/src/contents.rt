@@ -3,8 +3,8 @@
 // Where a body lies in the file, and how many records it has.
 #[derive(Clone, Copy)]
 pub struct Body {
-    pub place: usize,
-    pub count: usize,
+    pub place: u16,
+    pub count: u16,
 }
 
 // The four bodies, in the order of the file.

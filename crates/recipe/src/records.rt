@@ -10,11 +10,11 @@ use model::Method;
 use model::Node;
 
 // Two bytes as a number, the greater one first.
-pub fn word(bytes: &[u8], at: usize) -> u32
+pub fn word(bytes: &[u8], at: usize) -> u16
     requires { ⌜ at + 1 < length (now bytes) ⌝ }
     ensures { λ r. ⌜ r ≡ wordAt (now (bytes .entry)) at ⌝ }
 {
-    bytes[at] as u32 * 256 + bytes[at + 1] as u32
+    bytes[at] as u16 * 256 + bytes[at + 1] as u16
 }
 
 // What the fields of a node record that depend on its kind say, if those that its kind does not use are 0.
@@ -54,15 +54,15 @@ impl Layout<'_> {
         requires { ⌜ k < now self .contents .methods .count ⌝ }
         ensures { λ r. ⌜ r ≡ methodIn (now (now (self .entry) .file)) k ⌝ }
     {
-        let at = self.contents.methods.place + 4 * k;
-        Method { rights: word(self.file, at), nodes: word(self.file, at + 2) }
+        let at = self.contents.methods.place as usize + 4 * k;
+        Method { rights: word(self.file, at) as u32, nodes: word(self.file, at + 2) as u32 }
     }
 
     pub fn node(&self, n: usize) -> Option<Node>
         requires { ⌜ n < now self .contents .nodes .count ⌝ }
         ensures { λ r. ⌜ r ≡ nodeIn (now (now (self .entry) .file)) n ⌝ }
     {
-        let at = self.contents.nodes.place + 8 * n;
+        let at = self.contents.nodes.place as usize + 8 * n;
         node_of(&self.file[at..at + 8])
     }
 
@@ -70,14 +70,15 @@ impl Layout<'_> {
         requires { ⌜ i < now self .contents .edges .count ⌝ }
         ensures { λ r. ⌜ r ≡ edgeIn (now (now (self .entry) .file)) i ⌝ }
     {
-        let at = self.contents.edges.place + 4 * i;
-        Edge { from: word(self.file, at), to: word(self.file, at + 2) }
+        let at = self.contents.edges.place as usize + 4 * i;
+        Edge { from: word(self.file, at) as u32, to: word(self.file, at + 2) as u32 }
     }
 
     pub fn cell(&self, row: usize, mark: usize) -> u32
         requires { ⌜ row < now self .contents .rows .count ⌝ ∗ ⌜ mark < 32 ⌝ }
         ensures { λ r. ⌜ r ≡ cellIn (now (now (self .entry) .file)) row mark ⌝ }
     {
-        self.file[self.contents.rows.place + 32 * row + mark] as u32
+        let at = self.contents.rows.place as usize + 32 * row + mark;
+        self.file[at] as u32
     }
 }

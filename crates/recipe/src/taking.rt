@@ -19,15 +19,15 @@ impl Body {
         ensures { λ r. ⌜ r ≡ bodyIn (now (file .entry)) entry ⌝ }
     {
         let at = 4 * entry;
-        Body { place: word(file, at) as usize, count: word(file, at + 2) as usize }
+        Body { place: word(file, at), count: word(file, at + 2) }
     }
 
     // Where the body ends, if its records are so wide.
     fn end(&self, wide: usize) -> usize
-        requires { ⌜ wide ≤ 32 ⌝ ∗ ⌜ now self .place < 65536 ⌝ ∗ ⌜ now self .count < 65536 ⌝ }
+        requires { ⌜ wide ≤ 32 ⌝ }
         ensures { λ r. ⌜ r ≡ ends wide (now (self .entry)) ⌝ }
     {
-        self.place + wide * self.count
+        self.place as usize + wide * self.count as usize
     }
 }
 
@@ -57,16 +57,41 @@ impl Contents {
         }
         Ok(())
     }
+
+    // Whether the bodies follow each other without gaps to the end of the file.
+    fn check_places(&self, len: usize) -> Result<(), Refusal>
+        ensures { λ r. ⌜ errPart r ≡ firstOffence (placeTests (now (self .entry)) len) ⌝ }
+    {
+        if self.methods.place != 16 {
+            return Err(Refusal::Misplaced { entry: 0 });
+        }
+        if self.nodes.place as usize != self.methods.end(4) {
+            return Err(Refusal::Misplaced { entry: 1 });
+        }
+        if self.edges.place as usize != self.nodes.end(8) {
+            return Err(Refusal::Misplaced { entry: 2 });
+        }
+        if self.rows.place as usize != self.edges.end(4) {
+            return Err(Refusal::Misplaced { entry: 3 });
+        }
+        if len != self.rows.end(32) {
+            return Err(Refusal::Misplaced { entry: 4 });
+        }
+        Ok(())
+    }
 }
 
 // Fills the draft with the file, if its table of contents and its length are right; else leaves it.
 pub fn take<'a>(file: &'a [u8], draft: &mut Draft<'a>) -> Result<(), Refusal>
     ensures answer { λ r. ⌜ errPart r ≡ firstOffence (takeTests (now (file .entry))) ⌝ }
+    ensures filled { λ r. ⌜ Cases r (λ _. now (now (draft .exit) .layout .file) ≡ now (file .entry)) (λ _. now (draft .exit) ≡ now (draft .entry)) ⌝ }
 {
     if file.len() < 16 {
         return Err(Refusal::Misplaced { entry: 4 });
     }
     let contents = Contents::read(file);
     contents.check_counts()?;
-    Err(Refusal::Misplaced { entry: 4 })
+    contents.check_places(file.len())?;
+    *draft = Draft { layout: Layout { file, contents } };
+    Ok(())
 }
