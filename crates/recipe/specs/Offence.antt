@@ -7,10 +7,11 @@ use lib.Dec.{ltb, leb, eqb}
 use lib.ListN.{length}
 use Rattle.std.specs.declared.option.Option.{Option}
 use Rattle.std.specs.declared.option.Option.the-variants.{Some, None}
+use Rattle.model.specs.declared.Edge.{Edge}
 use Rattle.model.specs.declared.Kind.{Kind}
 use Rattle.model.specs.declared.Kind.the-variants.{Nop, Call, Check, Return}
 use Rattle.model.specs.declared.Node.{Node}
-use Rattle.model.specs.Program.{Program, nodeAt, offset, rightsOf, isEdge, rises}
+use Rattle.model.specs.Program.{Program, nodeAt, offset, rightsOf, counts}
 use Rattle.recipe.specs.Bytes.{countIn, contentsIn, methodIn, nodeIn, edgeIn, cellIn, listed, programOf}
 use Rattle.recipe.specs.declared.contents.Body.{Body}
 use Rattle.recipe.specs.declared.contents.Contents.{Contents}
@@ -109,13 +110,14 @@ nodeTest bs n = recordFits (countIn bs 0) (rightsOf (programOf bs) n) (nodeIn bs
 unfoldable pub entryTest : List ℕ → ℕ → Bool
 entryTest bs k = anyBelow (methodIn bs k .nodes) (λ j. nodeAt (programOf bs) (offset (programOf bs .methods) k + j) .entry)
 
--- an edge is one by the rules, and rises above the edge before it
-abbrev pub risesFrom : List ℕ → ℕ → Bool
-risesFrom bs zero = true
-risesFrom bs (suc i) = rises (edgeIn bs i) (edgeIn bs (suc i))
+-- the edge before edge i, if there is one
+abbrev pub edgeBefore : List ℕ → ℕ → Option Edge
+edgeBefore bs zero = None
+edgeBefore bs (suc i) = Some (edgeIn bs i)
 
+-- an edge is one by the rules, and rises above the edge before it: it counts after that one
 unfoldable pub edgeTest : List ℕ → ℕ → Bool
-edgeTest bs i = isEdge (programOf bs) (edgeIn bs i) && risesFrom bs i
+edgeTest bs i = counts (programOf bs) (edgeBefore bs i) (edgeIn bs i)
 
 -- each cell of a row is a row's number, or 255
 abbrev pub cellTest : List ℕ → ℕ → ℕ → Bool

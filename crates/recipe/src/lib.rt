@@ -6,10 +6,13 @@ ghost use mathlib.Core.Bool.{true};
 ghost use Rattle.recipe.specs.Bytes.{placeIn, countIn};
 ghost use Rattle.recipe.specs.Offence.{methodTest, nodeTest, entryTest, edgeTest, rowTest};
 
+mod checking;
 mod contents;
 mod grounds;
 mod numbers;
 mod records;
+mod seeking;
+mod spans;
 mod taking;
 
 pub use contents::Body;

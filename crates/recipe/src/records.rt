@@ -2,7 +2,8 @@
 ghost use mathlib.Core.Path.{_≡_};
 ghost use Prim.Native.Nat.{ℕ, _+_, _*_, _<_, _≤_};
 ghost use lib.ListN.{length, getD};
-ghost use Rattle.recipe.specs.Bytes.{wordAt, methodIn, edgeIn, cellIn, nodeIn, kindOf, recordAt};
+ghost use Rattle.recipe.specs.Bytes.{wordAt, methodIn, edgeIn, cellIn, nodeIn, kindOf, recordAt, programOf};
+ghost use Rattle.model.specs.Program.{nodeAt};
 use crate::Layout;
 use model::Edge;
 use model::Kind;
@@ -64,6 +65,17 @@ impl Layout<'_> {
     {
         let at = self.contents.nodes.place as usize + 8 * n;
         node_of(&self.file[at..at + 8])
+    }
+
+    // The node, or the one that stands for none.
+    pub fn node_at(&self, n: usize) -> Node
+        requires { ⌜ n < now self .contents .nodes .count ⌝ }
+        ensures { λ r. ⌜ r ≡ nodeAt (programOf (now (now (self .entry) .file))) n ⌝ }
+    {
+        match self.node(n) {
+            Some(node) => node,
+            None => Node { kind: Kind::Return, mark: 0, entry: false },
+        }
     }
 
     pub fn edge(&self, i: usize) -> Edge
