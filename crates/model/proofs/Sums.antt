@@ -11,11 +11,13 @@ use Rattle.std.proofs.shelf.Tests.{cases-lt, lt-ltb, le-ltb, cond-true, cond-fa
 use Rattle.model.specs.declared.Method.{Method}
 use Rattle.model.specs.Program.{noMethod, offset, home}
 
-pub offset-more : (ms : List Method) (k : ℕ) → k < length ms → offset ms (suc k) ≡ offset ms k + getD ms k noMethod .nodes
+-- the next method begins where the nodes of this one end
+pub offset-step : (ms : List Method) (k : ℕ) → offset ms (suc k) ≡ offset ms k + getD ms k noMethod .nodes
 unfolding offset
-offset-more [] k lt = absurd (omega arith)
-offset-more (m ∷ ms) zero lt = omega arith
-offset-more (m ∷ ms) (suc k) lt = let h = offset-more ms k (omega arith) in omega arith
+offset-step [] zero = refl
+offset-step [] (suc k) = refl
+offset-step (m ∷ ms) zero = omega arith
+offset-step (m ∷ ms) (suc k) = let h = offset-step ms k in omega arith
 
 pub offset-mono : (ms : List Method) (j k : ℕ) → j ≤ k → offset ms j ≤ offset ms k
 unfolding offset

@@ -1,5 +1,10 @@
+pub mod Chunks
+pub mod Decoding
 pub mod Firsts
+pub mod Layers
 pub mod Pieces
 pub mod Places
+pub mod ReadBack
 pub mod Scans
 pub mod Tables
+pub mod WriteBack

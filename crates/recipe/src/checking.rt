@@ -6,7 +6,7 @@ ghost use Rattle.std.specs.Results.{errPart, Cases};
 ghost use Rattle.recipe.specs.Bytes.{countIn, programOf};
 ghost use Rattle.recipe.specs.declared.grounds.Refusal.the-variants.{BadMethod, BadNode, BadEdge, BadRow};
 ghost use Rattle.recipe.specs.Offence.{firstOffence, each, methodTest, nodeTest, entryTest, edgeTest, rowTest};
-ghost use Rattle.model.specs.Program.{nodeAt, isEdge, risesAfter};
+ghost use Rattle.model.specs.Program.{nodeAt, isReturn, isEdge, risesAfter};
 ghost use Rattle.recipe.specs.Bytes.{nodeIn};
 ghost use Rattle.recipe.specs.Offence.{anyBelow, kindFits, recordFits};
 ghost use Rattle.recipe.specs.Spans.{Summed, SpanOf};
@@ -23,6 +23,16 @@ fn kind_fits(kind: Kind, methods: u32, rights: u32) -> bool
     match kind {
         Kind::Call { callee, grant, accept, .. } => callee < methods && grant & rights == grant && accept & rights == accept,
         Kind::Nop | Kind::Check { .. } | Kind::Return => true,
+    }
+}
+
+// Whether a node of this kind ends its call.
+fn is_return(kind: Kind) -> bool
+    ensures { λ r. ⌜ r ≡ isReturn kind ⌝ }
+{
+    match kind {
+        Kind::Return => true,
+        Kind::Nop | Kind::Call { .. } | Kind::Check { .. } => false,
     }
 }
 
@@ -114,17 +124,15 @@ impl Layout<'_> {
 
     // Whether e is an edge by the rules; the span is that of the node it leaves.
     pub fn edge_fits(&self, span: Span, e: Edge) -> bool
-        requires { ⌜ Summed (now (now self .file)) ⌝ ∗ ⌜ SpanOf (now (now self .file)) span ⌝ ∗ ⌜ span .start ≤ e .from ⌝ ∗ ⌜ e .from < span .end ⌝ }
+        requires sums { ⌜ Summed (now (now self .file)) ⌝ }
+        requires spans { ⌜ SpanOf (now (now self .file)) span ⌝ }
+        requires low { ⌜ span .start ≤ e .from ⌝ }
+        requires high { ⌜ e .from < span .end ⌝ }
         ensures { λ r. ⌜ r ≡ isEdge (programOf (now (now (self .entry) .file))) e ⌝ }
     {
         let to = e.to as usize;
-        if to < span.start || to >= span.end {
-            return false;
-        }
-        match self.node_at(e.from as usize).kind {
-            Kind::Return => false,
-            Kind::Nop | Kind::Call { .. } | Kind::Check { .. } => true,
-        }
+        let goes_on = !is_return(self.node_at(e.from as usize).kind);
+        goes_on && span.start <= to && to < span.end
     }
 
     // Each edge is one by the rules, and rises above the one before it.

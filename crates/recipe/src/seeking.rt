@@ -9,15 +9,21 @@ use crate::spans::Span;
 impl Layout<'_> {
     // The span of the first method.
     pub fn first_span(&self) -> Span
-        ensures { λ r. ⌜ SpanOf (now (now (self .entry) .file)) r ⌝ ∗ ⌜ r .start ≡ 0 ⌝ }
+        ensures spans { λ r. ⌜ SpanOf (now (now (self .entry) .file)) r ⌝ }
+        ensures first { λ r. ⌜ r .start ≡ 0 ⌝ }
     {
         Span { method: 0, start: 0, end: self.method(0).nodes as usize }
     }
 
     // The span that has node n: this one, or one after it.
     pub fn seek(&self, span: Span, n: usize) -> Span
-        requires { ⌜ Summed (now (now self .file)) ⌝ ∗ ⌜ SpanOf (now (now self .file)) span ⌝ ∗ ⌜ span .start ≤ n ⌝ ∗ ⌜ n < now self .contents .nodes .count ⌝ }
-        ensures { λ r. ⌜ SpanOf (now (now (self .entry) .file)) r ⌝ ∗ ⌜ r .start ≤ n ⌝ ∗ ⌜ n < r .end ⌝ }
+        requires sums { ⌜ Summed (now (now self .file)) ⌝ }
+        requires spans { ⌜ SpanOf (now (now self .file)) span ⌝ }
+        requires low { ⌜ span .start ≤ n ⌝ }
+        requires within { ⌜ n < now self .contents .nodes .count ⌝ }
+        ensures spans { λ r. ⌜ SpanOf (now (now (self .entry) .file)) r ⌝ }
+        ensures low { λ r. ⌜ r .start ≤ n ⌝ }
+        ensures high { λ r. ⌜ n < r .end ⌝ }
     {
         let mut at = span;
         while n >= at.end {

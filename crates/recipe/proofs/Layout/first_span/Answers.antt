@@ -13,4 +13,4 @@ returns c =
     let bs = c .args .self .now .file .now in
     let some : 0 < countIn bs 0 = omega arith in
     let own = ap (λ m. m .nodes) (c .method .ensures) in
-    ((some, refl, own ∙ sym (sum-more bs 0 some ∙ zero-add _)), refl)
+    record { spans = (some, refl, own ∙ sym (sum-more bs 0 some ∙ zero-add _)); first = refl }
