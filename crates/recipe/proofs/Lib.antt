@@ -6,5 +6,7 @@ pub mod Pieces
 pub mod Places
 pub mod ReadBack
 pub mod Scans
+pub mod Stages
 pub mod Tables
+pub mod Verdicts
 pub mod WriteBack

@@ -51,37 +51,6 @@ pub record Taken (bs : List ℕ) : Type 0 where
   pub at-3 : placeIn bs 3 ≡ rowsAt bs
   pub whole : length bs ≡ endAt bs
 
-within : (low high n : ℕ) → between low high n ≡ true → (low ≤ n) × (n ≤ high)
-within low high n e = let h = and-parts (leb low n) (leb n high) e in (leb-true low n (h .0), leb-true n high (h .1))
-
-pub taken : (bs : List ℕ) → firstOffence (takeTests bs) ≡ None → Taken bs
-taken bs e =
-    let t0 = passed _ _ _ e in
-    let t1 = passed _ _ _ (t0 .1) in
-    let t2 = passed _ _ _ (t1 .1) in
-    let t3 = passed _ _ _ (t2 .1) in
-    let t4 = passed _ _ _ (t3 .1) in
-    let t5 = passed _ _ _ (t4 .1) in
-    let t6 = passed _ _ _ (t5 .1) in
-    let t7 = passed _ _ _ (t6 .1) in
-    let t8 = passed _ _ _ (t7 .1) in
-    let t9 = passed _ _ _ (t8 .1) in
-    let methods = within 1 256 (countIn bs 0) (t1 .0) in
-    let nodes = within 1 1024 (countIn bs 1) (t2 .0) in
-    let a0 = eqb-true (placeIn bs 0) 16 (t5 .0) in
-    let a1 = eqb-true (placeIn bs 1) (placeIn bs 0 + 4 * countIn bs 0) (t6 .0) in
-    let a2 = eqb-true (placeIn bs 2) (placeIn bs 1 + 8 * countIn bs 1) (t7 .0) in
-    let a3 = eqb-true (placeIn bs 3) (placeIn bs 2 + 4 * countIn bs 2) (t8 .0) in
-    let a4 = eqb-true (length bs) (placeIn bs 3 + 32 * countIn bs 3) (t9 .0) in
-    record {
-      long = leb-true 16 (length bs) (t0 .0);
-      methods-low = methods .0; methods-high = methods .1;
-      nodes-low = nodes .0; nodes-high = nodes .1;
-      edges-high = leb-true (countIn bs 2) 4096 (t3 .0);
-      rows-high = leb-true (countIn bs 3) 16 (t4 .0);
-      at-0 = a0; at-1 = omega arith; at-2 = omega arith; at-3 = omega arith; whole = omega arith;
-    }
-
 -- what check's tests tell where none fails
 pub record Checked (bs : List ℕ) : Type 0 where
   pub methods : (k : ℕ) → k < countIn bs 0 → methodTest bs k ≡ true
@@ -279,8 +248,5 @@ module _ (bs : List ℕ) (s : Small bs) (t : Taken bs) (c : Checked bs) where
       ∙ (λ i. file (sym (methods-length bs) i) (sym (nodes-length bs) i) (sym (edges-length bs) i) (sym (rows-length bs) i))
 
 -- a file of which take and check refuse nothing is legal
-pub legal : (bs : List ℕ) → Small bs → firstOffence (takeTests bs) ≡ None → firstOffence (checkTests bs) ≡ None → Legal bs
-legal bs s e f =
-    let t = taken bs e in
-    let c = checked bs f in
-    (programOf bs, edgesOf bs, lawful bs s t c, written bs s t c)
+pub legal : (bs : List ℕ) → Small bs → Taken bs → Checked bs → Legal bs
+legal bs s t c = (programOf bs, edgesOf bs, lawful bs s t c, written bs s t c)

@@ -2,15 +2,19 @@
 ghost use mathlib.Core.Path.{_≡_};
 ghost use mathlib.Core.Bool.{true};
 ghost use Prim.Native.Nat.{ℕ, suc, _+_, _*_, _<_, _≤_};
-ghost use Rattle.std.specs.Results.{errPart, Cases};
+ghost use Rattle.std.specs.Orderings.{Decides};
+ghost use Rattle.std.specs.Results.{errPart, isOk, Cases};
 ghost use Rattle.recipe.specs.Bytes.{countIn, programOf};
 ghost use Rattle.recipe.specs.declared.grounds.Refusal.the-variants.{BadMethod, BadNode, BadEdge, BadRow};
-ghost use Rattle.recipe.specs.Offence.{firstOffence, each, methodTest, nodeTest, entryTest, edgeTest, rowTest};
+ghost use Rattle.recipe.specs.Offence.{firstOffence, each, methodTest, nodeTest, entryTest, edgeTest, rowTest, checkTests};
 ghost use Rattle.model.specs.Program.{nodeAt, isReturn, isEdge, risesAfter};
 ghost use Rattle.recipe.specs.Bytes.{nodeIn};
 ghost use Rattle.recipe.specs.Offence.{anyBelow, kindFits, recordFits};
+ghost use Rattle.recipe.specs.Format.{Legal};
 ghost use Rattle.recipe.specs.Spans.{Summed, SpanOf};
+use crate::Draft;
 use crate::Layout;
+use crate::Recipe;
 use crate::Refusal;
 use crate::spans::Span;
 use model::Edge;
@@ -185,4 +189,27 @@ impl Layout<'_> {
         }
         Ok(())
     }
+
+    // All of it, in the order of check.
+    fn check_all(&self) -> Result<(), Refusal>
+        ensures { λ r. ⌜ errPart r ≡ firstOffence (checkTests (now (now (self .entry) .file))) ⌝ }
+    {
+        self.check_methods()?;
+        self.check_nodes()?;
+        self.check_entries()?;
+        self.check_edges()?;
+        self.check_rows()
+    }
+}
+
+// Turns a draft into a recipe, if each of its records is right; else leaves the recipe as it was.
+pub fn check<'a>(draft: Draft<'a>, recipe: &mut Recipe<'a>) -> Result<(), Refusal>
+    ensures answer { λ r. ⌜ errPart r ≡ firstOffence (checkTests (now (draft .entry .layout .file))) ⌝ }
+    ensures filled { λ r. ⌜ Cases r (λ _. now (now (recipe .exit) .layout .file) ≡ now (draft .entry .layout .file)) (λ _. now (recipe .exit) ≡ now (recipe .entry)) ⌝ }
+    ensures legal { λ r. ⌜ Decides (isOk r) (Legal (now (draft .entry .layout .file))) ⌝ }
+{
+    let layout = draft.layout;
+    layout.check_all()?;
+    *recipe = Recipe { layout };
+    Ok(())
 }

@@ -15,6 +15,7 @@ mod seeking;
 mod spans;
 mod taking;
 
+pub use checking::check;
 pub use contents::Body;
 pub use contents::Contents;
 pub use grounds::Refusal;

@@ -2,8 +2,10 @@
 ghost use mathlib.Core.Path.{_≡_};
 ghost use Prim.Native.Nat.{ℕ, _+_, _*_, _<_, _≤_};
 ghost use lib.ListN.{length};
-ghost use Rattle.std.specs.Results.{errPart, Cases};
+ghost use Rattle.std.specs.Results.{errPart, isOk, Cases};
 ghost use Rattle.recipe.specs.Bytes.{bodyIn, contentsIn};
+ghost use mathlib.Core.Bool.{true};
+ghost use Rattle.recipe.specs.Format.{Legal};
 ghost use Rattle.recipe.specs.Offence.{firstOffence, ends, countTests, placeTests, takeTests};
 use crate::Body;
 use crate::Contents;
@@ -85,6 +87,7 @@ impl Contents {
 pub fn take<'a>(file: &'a [u8], draft: &mut Draft<'a>) -> Result<(), Refusal>
     ensures answer { λ r. ⌜ errPart r ≡ firstOffence (takeTests (now (file .entry))) ⌝ }
     ensures filled { λ r. ⌜ Cases r (λ _. now (now (draft .exit) .layout .file) ≡ now (file .entry)) (λ _. now (draft .exit) ≡ now (draft .entry)) ⌝ }
+    ensures legal { λ r. ⌜ (Legal (now (file .entry)) → isOk r ≡ true) ⌝ }
 {
     if file.len() < 16 {
         return Err(Refusal::Misplaced { entry: 4 });
