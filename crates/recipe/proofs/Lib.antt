@@ -7,6 +7,7 @@ pub mod Places
 pub mod ReadBack
 pub mod Scans
 pub mod Stages
+pub mod Standing
 pub mod Tables
 pub mod Verdicts
 pub mod WriteBack

@@ -1,4 +1,5 @@
 pub mod Bytes
 pub mod Format
 pub mod Offence
+pub mod Recipes
 pub mod Spans

@@ -10,6 +10,7 @@ mod checking;
 mod contents;
 mod grounds;
 mod numbers;
+mod reading;
 mod records;
 mod seeking;
 mod spans;
