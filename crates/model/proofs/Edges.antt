@@ -1,14 +1,15 @@
 -- Laws of the edges that count: the tests say what the rules say, and what counts of a list is right and rises.
-use mathlib.Core.Path.{_≡_, refl, ap, _∙_}
+use mathlib.Core.Path.{_≡_, refl, sym, ap, _∙_}
 use mathlib.Core.Bool.{true, false, not, _&&_}
 use mathlib.Core.Logic.{_⊎_, inl, inr}
 use mathlib.Core.List.{List, [], _∷_}
-use Prim.Native.Nat.{ℕ, zero, suc, _<_, _≤_}
+use Prim.Native.Nat.{ℕ, zero, suc, _+_, _<_, _≤_}
 use native.Mathlib.Omega.{arith}
 use lib.Dec.{ltb, eqb}
-use lib.ListN.{length, getD}
+use lib.ListN.{length, getD, drop}
 use Rattle.std.specs.declared.option.Option.{Option}
 use Rattle.std.specs.declared.option.Option.the-variants.{Some, None}
+use Rattle.std.proofs.shelf.Lists.{drop-more, drop-all}
 use Rattle.std.proofs.shelf.Tests.{ltb-true, eqb-true, lt-ltb, eq-eqb, not-true, and-parts, and-from, or-cases, or-left, or-right, cond-true, cond-false, cond-both}
 use Rattle.model.specs.declared.Edge.{Edge}
 use Rattle.model.specs.Lawful.{Lawful}
@@ -156,3 +157,14 @@ lawful-with p es fs law few =
       ; edge = counted-rules p None fs
       ; rising = counted-rising p None fs
       ; row = law .row }
+
+-- a scan of a list from place i on: past an edge that counts, past one that does not, and at the end
+pub scan-yes : (p : Program) (last : Option Edge) (es : List Edge) (i : ℕ) → i < length es → counts p last (getD es i noEdge) ≡ true → countedAfter p last (drop i es) ≡ getD es i noEdge ∷ countedAfter p (Some (getD es i noEdge)) (drop (i + 1) es)
+scan-yes p last es i lt c = ap (countedAfter p last) (drop-more es i noEdge lt) ∙ counted-yes p last (getD es i noEdge) (drop (i + 1) es) c
+
+pub scan-no : (p : Program) (last : Option Edge) (es : List Edge) (i : ℕ) → i < length es → counts p last (getD es i noEdge) ≡ false → countedAfter p last (drop i es) ≡ countedAfter p last (drop (i + 1) es)
+scan-no p last es i lt c = ap (countedAfter p last) (drop-more es i noEdge lt) ∙ counted-no p last (getD es i noEdge) (drop (i + 1) es) c
+
+pub scan-end : (p : Program) (last : Option Edge) (es : List Edge) (i : ℕ) → length es ≤ i → countedAfter p last (drop i es) ≡ []
+unfolding countedAfter
+scan-end p last es i far = ap (countedAfter p last) (drop-all i es far)

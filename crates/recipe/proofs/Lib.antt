@@ -4,6 +4,7 @@ pub mod Firsts
 pub mod Layers
 pub mod Pieces
 pub mod Places
+pub mod Puts
 pub mod ReadBack
 pub mod Scans
 pub mod Stages
@@ -11,3 +12,4 @@ pub mod Standing
 pub mod Tables
 pub mod Verdicts
 pub mod WriteBack
+pub mod Writes

@@ -139,7 +139,7 @@ module _ (p : Program) (es : List Edge) where
   length-nodes : length (joined nodeBytes (p .nodes)) ≡ 8 * length (p .nodes)
   length-nodes = length-joined nodeBytes 8 noNode (p .nodes) (λ k l. node-wide (nodeAt p k))
 
-  length-edges : length (joined edgeBytes es) ≡ 4 * length es
+  pub length-edges : length (joined edgeBytes es) ≡ 4 * length es
   length-edges = length-joined edgeBytes 4 noEdge es (λ k l. edge-wide (getD es k noEdge))
 
   -- where each body begins

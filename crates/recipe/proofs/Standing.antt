@@ -1,5 +1,6 @@
 -- What a recipe's ghost facts say of its program: how many records it has, what each is, that it is lawful and that its file is what is written for it.
 use mathlib.Core.Path.{_≡_, refl, sym, ap, _∙_}
+use mathlib.Core.Bool.{true}
 use mathlib.Core.List.{List, map}
 use Prim.Native.Nat.{ℕ, _+_, _<_, _≤_}
 use native.Mathlib.Nat.{zero-add}
@@ -7,14 +8,17 @@ use native.Mathlib.Omega.{arith}
 use lib.ListN.{length, getD}
 use Rattle.std.specs.Finite.{nth}
 use Rattle.std.specs.Iters.{counting}
+use Rattle.std.specs.declared.option.Option.{Option}
 use Rattle.std.specs.declared.option.Option.the-variants.{Some, None}
+use Rattle.std.proofs.shelf.Tests.{and-parts}
 use Rattle.std.proofs.shelf.Counted.{length-map-counting, getD-map-counting}
 use Rattle.std.proofs.shelf.Lists.{getD-past}
 use Rattle.std.proofs.shelf.Maps.{nth-getD, nth-past}
 use Rattle.model.specs.declared.Edge.{Edge}
 use Rattle.model.specs.declared.Method.{Method}
 use Rattle.model.specs.Lawful.{Lawful}
-use Rattle.model.specs.Program.{noMethod, noNode, noEdge, noRow, nodeAt}
+use Rattle.model.proofs.Edges.{edge-rules}
+use Rattle.model.specs.Program.{noMethod, noNode, noEdge, noRow, nodeAt, isEdge, risesAfter, counts}
 use Rattle.recipe.specs.declared.Recipe.{Recipe}
 use Rattle.recipe.specs.Bytes.{countIn, methodIn, nodeIn, edgeIn, cellIn, programOf, edgesOf}
 use Rattle.recipe.specs.Format.{bytesOf}
@@ -82,3 +86,10 @@ cell-past-marks r row mark lt far =
     let f = cellIn bs row in
     let h = rows-length bs in
     ap (λ cells. nth cells mark) (row-at bs row (omega arith)) ∙ nth-past (map f (counting 0 32)) mark (let g = length-map-counting f 0 32 in omega arith)
+
+-- the ends of an edge that counts are nodes, and so they take two bytes
+pub edge-small : (r : Recipe) (last : Option Edge) (e : Edge) → counts (program r) last e ≡ true → (e .from < 65536) × (e .to < 65536)
+edge-small r last e c =
+    let rules = edge-rules (program r) e (and-parts (isEdge (program r) e) (risesAfter last e) c .0) in
+    let few = stands r .few-nodes in
+    (omega arith, omega arith)

@@ -3,3 +3,4 @@ pub mod Format
 pub mod Offence
 pub mod Recipes
 pub mod Spans
+pub mod Writing

@@ -15,12 +15,14 @@ mod records;
 mod seeking;
 mod spans;
 mod taking;
+mod writing;
 
 pub use checking::check;
 pub use contents::Body;
 pub use contents::Contents;
 pub use grounds::Refusal;
 pub use taking::take;
+pub use writing::write;
 
 // A lent file whose table of contents and length are right: four bodies without gaps.
 #[derive(Drop)]
