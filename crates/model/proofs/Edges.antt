@@ -33,18 +33,19 @@ edge-rules p e h =
     let a = and-parts (ltb (e .from) n) (ltb (e .to) n && (on && same)) h in
     let b = and-parts (ltb (e .to) n) (on && same) (a .1) in
     let c = and-parts on same (b .1) in
-    record
-      { leaves = ltb-true (e .from) n (a .0)
-      ; arrives = ltb-true (e .to) n (b .0)
-      ; goes-on = not-true (isReturn (nodeAt p (e .from) .kind)) (c .0)
-      ; stays = eqb-true (home (p .methods) (e .from)) (home (p .methods) (e .to)) (c .1) }
+    record {
+      leaves = ltb-true (e .from) n (a .0);
+      arrives = ltb-true (e .to) n (b .0);
+      goes-on = not-true (isReturn (nodeAt p (e .from) .kind)) (c .0);
+      stays = eqb-true (home (p .methods) (e .from)) (home (p .methods) (e .to)) (c .1);
+    }
 
 -- an edge that rises above another passes as a test, and what passes rises
 pub rise-passes : (d e : Edge) → Rises d e → rises d e ≡ true
 rise-passes d e (inl h) = or-left (ltb (d .from) (e .from)) (eqb (d .from) (e .from) && ltb (d .to) (e .to)) (lt-ltb (d .from) (e .from) h)
 rise-passes d e (inr h) =
     or-right (ltb (d .from) (e .from)) (eqb (d .from) (e .from) && ltb (d .to) (e .to))
-      (and-from (eqb (d .from) (e .from)) (ltb (d .to) (e .to)) (eq-eqb (d .from) (e .from) (h .0)) (lt-ltb (d .to) (e .to) (h .1)))
+    (and-from (eqb (d .from) (e .from)) (ltb (d .to) (e .to)) (eq-eqb (d .from) (e .from) (h .0)) (lt-ltb (d .to) (e .to) (h .1)))
 
 pub rise-rules : (d e : Edge) → rises d e ≡ true → Rises d e
 rise-rules d e h = by (or-cases (ltb (d .from) (e .from)) (eqb (d .from) (e .from) && ltb (d .to) (e .to)) h)
@@ -69,7 +70,7 @@ counted-both : (p : Program) (last : Option Edge) (e : Edge) (es : List Edge) (P
 unfolding countedAfter
 counted-both p last e es P kept passed =
     cond-both (counts p last e) (e ∷ countedAfter p (Some e) es) (countedAfter p last es) P
-      (λ h. let a = and-parts (isEdge p e) (risesAfter last e) h in kept (a .0) (a .1)) (λ h. passed)
+    (λ h. let a = and-parts (isEdge p e) (risesAfter last e) h in kept (a .0) (a .1)) (λ h. passed)
 
 -- each edge of these is one by the rules
 abbrev Ruled : Program → List Edge → Type 0
@@ -97,8 +98,8 @@ unfolding countedAfter
 counted-rules p last [] = λ i lt. absurd (omega arith)
 counted-rules p last (e ∷ es) =
     counted-both p last e es (Ruled p)
-      (λ right above. ruled-more p e (countedAfter p (Some e) es) (edge-rules p e right) (counted-rules p (Some e) es))
-      (counted-rules p last es)
+    (λ right above. ruled-more p e (countedAfter p (Some e) es) (edge-rules p e right) (counted-rules p (Some e) es))
+    (counted-rules p last es)
 
 -- the first that counts after a last one rises above it
 pub counted-first : (p : Program) (d : Edge) (es : List Edge) → 0 < length (countedAfter p (Some d) es) → Rises d (getD (countedAfter p (Some d) es) 0 noEdge)
@@ -112,8 +113,8 @@ unfolding countedAfter
 counted-rising p last [] = λ i lt. absurd (omega arith)
 counted-rising p last (e ∷ es) =
     counted-both p last e es Rising
-      (λ right above. rising-more e (countedAfter p (Some e) es) (counted-first p e es) (counted-rising p (Some e) es))
-      (counted-rising p last es)
+    (λ right above. rising-more e (countedAfter p (Some e) es) (counted-first p e es) (counted-rising p (Some e) es))
+    (counted-rising p last es)
 
 -- no more edges count than there are
 pub counted-length : (p : Program) (last : Option Edge) (es : List Edge) → length (countedAfter p last es) ≤ length es
@@ -131,7 +132,7 @@ whole-after p last [] first right rising = refl
 whole-after p last (e ∷ es) first right rising =
     counted-yes p last e es (and-from (isEdge p e) (risesAfter last e) (edge-passes p e (right 0 (omega arith))) (first (omega arith)))
     ∙ ap (λ cs. e ∷ cs) (whole-after p (Some e) es (λ lt. rise-passes e (getD es 0 noEdge) (rising 0 (omega arith)))
-        (λ i lt. right (suc i) (omega arith)) (λ i lt. rising (suc i) (omega arith)))
+    (λ i lt. right (suc i) (omega arith)) (λ i lt. rising (suc i) (omega arith)))
 
 -- edges that are right already all count
 pub counted-whole : (p : Program) (es : List Edge) → ((i : ℕ) → i < length es → EdgeRules p (getD es i noEdge)) → ((i : ℕ) → suc i < length es → Rises (getD es i noEdge) (getD es (suc i) noEdge)) → counted p es ≡ es
@@ -144,19 +145,20 @@ lawful-counted p es law = counted-whole p es (law .edge) (law .rising)
 pub lawful-with : (p : Program) (es fs : List Edge) → Lawful p es → length fs ≤ 4096 → Lawful p (counted p fs)
 lawful-with p es fs law few =
     let less = counted-length p None fs in
-    record
-      { some-method = law .some-method
-      ; few-methods = law .few-methods
-      ; some-node = law .some-node
-      ; few-nodes = law .few-nodes
-      ; few-edges = omega arith
-      ; few-rows = law .few-rows
-      ; method = law .method
-      ; summing = law .summing
-      ; node = law .node
-      ; edge = counted-rules p None fs
-      ; rising = counted-rising p None fs
-      ; row = law .row }
+    record {
+      some-method = law .some-method;
+      few-methods = law .few-methods;
+      some-node = law .some-node;
+      few-nodes = law .few-nodes;
+      few-edges = omega arith;
+      few-rows = law .few-rows;
+      method = law .method;
+      summing = law .summing;
+      node = law .node;
+      edge = counted-rules p None fs;
+      rising = counted-rising p None fs;
+      row = law .row;
+    }
 
 -- a scan of a list from place i on: past an edge that counts, past one that does not, and at the end
 pub scan-yes : (p : Program) (last : Option Edge) (es : List Edge) (i : ℕ) → i < length es → counts p last (getD es i noEdge) ≡ true → countedAfter p last (drop i es) ≡ getD es i noEdge ∷ countedAfter p (Some (getD es i noEdge)) (drop (i + 1) es)

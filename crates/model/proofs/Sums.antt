@@ -50,6 +50,6 @@ home-within [] n lt = absurd (omega arith)
 home-within (m ∷ ms) n lt = split (cases-lt n (m .nodes)) (λ le. home-within ms (n - m .nodes) (omega arith))
   where
     split : (n < m .nodes) ⊎ (m .nodes ≤ n) → (m .nodes ≤ n → (home ms (n - m .nodes) < length ms) × (offset ms (home ms (n - m .nodes)) ≤ n - m .nodes) × (n - m .nodes < offset ms (suc (home ms (n - m .nodes)))))
-      → (home (m ∷ ms) n < length (m ∷ ms)) × (offset (m ∷ ms) (home (m ∷ ms) n) ≤ n) × (n < offset (m ∷ ms) (suc (home (m ∷ ms) n)))
+        → (home (m ∷ ms) n < length (m ∷ ms)) × (offset (m ∷ ms) (home (m ∷ ms) n) ≤ n) × (n < offset (m ∷ ms) (suc (home (m ∷ ms) n)))
     split (inl lt) rest = rw (home-first m ms n lt) (omega arith)
     split (inr le) rest = let h = rest le in rw (home-past m ms n le) (omega arith)

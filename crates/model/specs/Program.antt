@@ -31,7 +31,6 @@ noNode = record { kind = Return; mark = 0; entry = false }
 abbrev pub noEdge : Edge
 noEdge = record { from = 0; to = 0 }
 
-
 abbrev pub noRow : List ℕ
 noRow = []
 

@@ -45,7 +45,7 @@ drop-four d bs i le =
     ∙ ap (λ rest. getD bs i d ∷ getD bs (i + 1) d ∷ rest) (drop-two d bs (i + 2) (omega arith) ∙ (λ t. getD bs (i + 2) d ∷ getD bs (e t) d ∷ drop (f t) bs))
 
 pub drop-eight : {A : Type 0} (d : A) (bs : List A) (i : ℕ) → i + 8 ≤ length bs
-  → drop i bs ≡ getD bs i d ∷ getD bs (i + 1) d ∷ getD bs (i + 2) d ∷ getD bs (i + 3) d ∷ getD bs (i + 4) d ∷ getD bs (i + 5) d ∷ getD bs (i + 6) d ∷ getD bs (i + 7) d ∷ drop (i + 8) bs
+    → drop i bs ≡ getD bs i d ∷ getD bs (i + 1) d ∷ getD bs (i + 2) d ∷ getD bs (i + 3) d ∷ getD bs (i + 4) d ∷ getD bs (i + 5) d ∷ getD bs (i + 6) d ∷ getD bs (i + 7) d ∷ drop (i + 8) bs
 drop-eight d bs i le =
     let e : i + 4 + 1 ≡ i + 5 = omega arith in
     let f : i + 4 + 2 ≡ i + 6 = omega arith in
@@ -53,4 +53,4 @@ drop-eight d bs i le =
     let h : i + 4 + 4 ≡ i + 8 = omega arith in
     drop-four d bs i (omega arith)
     ∙ ap (λ rest. getD bs i d ∷ getD bs (i + 1) d ∷ getD bs (i + 2) d ∷ getD bs (i + 3) d ∷ rest)
-        (drop-four d bs (i + 4) (omega arith) ∙ (λ t. getD bs (i + 4) d ∷ getD bs (e t) d ∷ getD bs (f t) d ∷ getD bs (g t) d ∷ drop (h t) bs))
+    (drop-four d bs (i + 4) (omega arith) ∙ (λ t. getD bs (i + 4) d ∷ getD bs (e t) d ∷ getD bs (f t) d ∷ getD bs (g t) d ∷ drop (h t) bs))

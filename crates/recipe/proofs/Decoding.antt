@@ -68,14 +68,18 @@ module _ (kind flags callee grant accept : ℕ) (k : Kind) where
   pub kind-told : kindOf kind flags callee grant accept ≡ Some k → Tells
   kind-told e =
       elim (cond-either (eqb kind 0) _ _ (Some k) e) [
-        inl h ↦ told-nop (eqb-true kind 0 (h .0)) (h .1)
-      | inr h ↦ elim (cond-either (eqb kind 1) _ _ (Some k) (h .1)) [
-          inl h ↦ told-call (eqb-true kind 1 (h .0)) (h .1)
-        | inr h ↦ elim (cond-either (eqb kind 2) _ _ (Some k) (h .1)) [
-            inl h ↦ told-check (eqb-true kind 2 (h .0)) (h .1)
-          | inr h ↦ elim (cond-either (eqb kind 3) _ _ (Some k) (h .1)) [
-              inl h ↦ told-return (eqb-true kind 3 (h .0)) (h .1)
-            | inr h ↦ let h1 = h .1 in let z : _≡_ {A = ℕ} 0 1 = cc in absurd (omega arith) ] ] ] ]
+        | inl h ↦ told-nop (eqb-true kind 0 (h .0)) (h .1)
+        | inr h ↦ elim (cond-either (eqb kind 1) _ _ (Some k) (h .1)) [
+          | inl h ↦ told-call (eqb-true kind 1 (h .0)) (h .1)
+          | inr h ↦ elim (cond-either (eqb kind 2) _ _ (Some k) (h .1)) [
+            | inl h ↦ told-check (eqb-true kind 2 (h .0)) (h .1)
+            | inr h ↦ elim (cond-either (eqb kind 3) _ _ (Some k) (h .1)) [
+              | inl h ↦ told-return (eqb-true kind 3 (h .0)) (h .1)
+              | inr h ↦ let h1 = h .1 in let z : _≡_ {A = ℕ} 0 1 = cc in absurd (omega arith)
+            ]
+          ]
+        ]
+      ]
 
 -- the same of a record of eight bytes
 pub record RecordTold (kind mark flags callee g1 g0 a1 a0 : ℕ) (n : Node) : Type 0 where
@@ -114,7 +118,7 @@ high-low high low lt =
 
 module _ (kind mark flags callee g1 g0 a1 a0 : ℕ) (g : g0 < 256) (a : a0 < 256) where
   kind-bytes : (k : Kind) → Told kind flags callee (g1 * 256 + g0) (a1 * 256 + a0) k
-    → nodeBytes (record { kind = k; mark = mark; entry = eqb (flags % 2) 1 }) ≡ kind ∷ mark ∷ flags ∷ callee ∷ g1 ∷ g0 ∷ a1 ∷ a0 ∷ []
+      → nodeBytes (record { kind = k; mark = mark; entry = eqb (flags % 2) 1 }) ≡ kind ∷ mark ∷ flags ∷ callee ∷ g1 ∷ g0 ∷ a1 ∷ a0 ∷ []
   kind-bytes _ (is-nop k f c gs as′) =
       let e = one-flag flags f in
       let x : g1 ≡ 0 = omega arith in

@@ -41,8 +41,8 @@ module _ {X : Type 0} (enc : X → List ℕ) (w : ℕ) (d : X) where
       let e : length (enc x) ≡ w = wide 0 (omega arith) in
       let g : w + (w * k + i) ≡ j = omega (arith, mul-suc w k) in
       rw (append-assoc (enc x) (joined enc xs) rest)
-        (getD-after (enc x) (joined enc xs ++ rest) w (w * k + i) j 0 e g
-        ∙ getD-joined xs rest k i (w * k + i) (λ a b. wide (suc a) (omega arith)) (omega arith) m refl)
+      (getD-after (enc x) (joined enc xs ++ rest) w (w * k + i) j 0 e g
+      ∙ getD-joined xs rest k i (w * k + i) (λ a b. wide (suc a) (omega arith)) (omega arith) m refl)
 
 -- what holds of each byte of each record holds of each byte of the list
 pub all-joined : {X : Type 0} (enc : X → List ℕ) (P : ℕ → Type 0) (d : X) (xs : List X) → ((k : ℕ) → k < length xs → All P (enc (getD xs k d))) → All P (joined enc xs)

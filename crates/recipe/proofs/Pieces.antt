@@ -38,7 +38,7 @@ module _ {X : Type 0} (xs ys zs : List X) (at : ℕ) (fits : at + length ys ≤ 
 
 -- ws at the front of xs, and after it bytes put where it ends
 pub put-after : {X : Type 0} (xs ws ys out zs : List X) (at : ℕ) → out ≡ ws ++ drop (length ws) xs → length ws ≡ at → length ws ≤ length xs → at + length ys ≤ length xs → zs ≡ take at out ++ (ys ++ drop (at + length ys) out)
-  → zs ≡ (ws ++ ys) ++ drop (length (ws ++ ys)) xs
+    → zs ≡ (ws ++ ys) ++ drop (length (ws ++ ys)) xs
 put-after xs ws ys out zs at o a w f is =
     let n = length-append ws ys in
     let d = length-drop (length ws) xs in

@@ -18,6 +18,16 @@ rows-place l = omega arith
 -- the file of a layout passes take's tests
 pub laid : (l : Layout) → Taken (l .file .now)
 laid l = record {
-  long = omega arith; methods-low = omega arith; methods-high = omega arith; nodes-low = omega arith; nodes-high = omega arith; edges-high = omega arith; rows-high = omega arith;
-  at-0 = omega arith; at-1 = omega arith; at-2 = omega arith; at-3 = omega arith; whole = omega arith;
+  long = omega arith;
+  methods-low = omega arith;
+  methods-high = omega arith;
+  nodes-low = omega arith;
+  nodes-high = omega arith;
+  edges-high = omega arith;
+  rows-high = omega arith;
+  at-0 = omega arith;
+  at-1 = omega arith;
+  at-2 = omega arith;
+  at-3 = omega arith;
+  whole = omega arith;
 }

@@ -27,7 +27,7 @@ module _ (p : Program) (es : List Edge) (at : ℕ) (xs : List ℕ) where
 
   -- an edge that counts is written
   pub sofar-yes : (place : ℕ) (out : List ℕ) (last : Option Edge) (i : ℕ) (bs out′ : List ℕ) → Sofar p es at xs place out last i → i < length es → counts p last (getD es i noEdge) ≡ true
-    → bs ≡ edgeBytes (getD es i noEdge) → place + 4 ≤ length out → out′ ≡ take place out ++ (bs ++ drop (place + length bs) out) → Sofar p es at xs (place + 4) out′ (Some (getD es i noEdge)) (i + 1)
+      → bs ≡ edgeBytes (getD es i noEdge) → place + 4 ≤ length out → out′ ≡ take place out ++ (bs ++ drop (place + length bs) out) → Sofar p es at xs (place + 4) out′ (Some (getD es i noEdge)) (i + 1)
   sofar-yes place out last i bs out′ so lt c b fits is =
       let e = getD es i noEdge in
       let scan = scan-yes p last es i lt c in
@@ -54,7 +54,7 @@ module _ (p : Program) (es : List Edge) (at : ℕ) (xs : List ℕ) where
 
   -- at the end of the list all of it is written
   pub sofar-end : (place : ℕ) (out : List ℕ) (last : Option Edge) (i : ℕ) → Sofar p es at xs place out last i → length es ≤ i
-    → out ≡ take at xs ++ (joined edgeBytes (counted p es) ++ drop (at + 4 * length (counted p es)) xs)
+      → out ≡ take at xs ++ (joined edgeBytes (counted p es) ++ drop (at + 4 * length (counted p es)) xs)
   sofar-end place out last i so far =
       let rest = scan-end p last es i far in
       let e : place ≡ at + 4 * length (counted p es) = let g = ap length rest in let r = so .room in omega arith in

@@ -206,9 +206,9 @@ module _ (p : Program) (es : List Edge) where
   node-read n l h =
       let at = nodesAt (bytesOf p es) + 8 * n in
       (λ i. recordOf (byte-of-node n 0 at l (lit< tt) (add-zero at) i) (byte-of-node n 1 (at + 1) l (lit< tt) refl i)
-          (byte-of-node n 2 (at + 2) l (lit< tt) refl i) (byte-of-node n 3 (at + 3) l (lit< tt) refl i)
-          (byte-of-node n 4 (at + 4) l (lit< tt) refl i) (byte-of-node n 5 (at + 5) l (lit< tt) refl i)
-          (byte-of-node n 6 (at + 6) l (lit< tt) refl i) (byte-of-node n 7 (at + 7) l (lit< tt) refl i))
+      (byte-of-node n 2 (at + 2) l (lit< tt) refl i) (byte-of-node n 3 (at + 3) l (lit< tt) refl i)
+      (byte-of-node n 4 (at + 4) l (lit< tt) refl i) (byte-of-node n 5 (at + 5) l (lit< tt) refl i)
+      (byte-of-node n 6 (at + 6) l (lit< tt) refl i) (byte-of-node n 7 (at + 7) l (lit< tt) refl i))
       ∙ node-decoded (nodeAt p n) h
 
 -- rows are as wide as the rules say
@@ -218,7 +218,7 @@ rows-wide p es law k l = law .row k l .wide
 pub cell-read : (p : Program) (es : List Edge) → Lawful p es → (r c : ℕ) → r < length (p .rows) → c < 32 → cellIn (bytesOf p es) r c ≡ getD (getD (p .rows) r noRow) c 0
 cell-read p es law r c l m =
     let h : getD (rows-part p es) (32 * r + c) 0 ≡ getD (getD (p .rows) r noRow) c 0 =
-        rw append-nil at (getD-joined rowBytes 32 noRow (p .rows) [] r c (32 * r + c) (rows-wide p es law) l m refl) in
+    rw append-nil at (getD-joined rowBytes 32 noRow (p .rows) [] r c (32 * r + c) (rows-wide p es law) l m refl) in
     from-rows p es (32 * r + c) (rowsAt (bytesOf p es) + 32 * r + c) (omega arith) ∙ h
 
 pub row-read : (p : Program) (es : List Edge) → Lawful p es → (r : ℕ) → r < length (p .rows) → rowIn (bytesOf p es) r ≡ getD (p .rows) r noRow
@@ -230,29 +230,36 @@ unfolding programOf
 read-program p es law =
     let bs = bytesOf p es in
     let ms : listed (methodIn bs) (countIn bs 0) ≡ p .methods =
-        sym (fill-by-all (methodIn bs) (p .methods) (countIn bs 0) noMethod (sym (count-methods p es))
-            (λ k l. sym (method-read p es k (omega (arith, count-methods p es))))) in
+    sym (fill-by-all (methodIn bs) (p .methods) (countIn bs 0) noMethod (sym (count-methods p es))
+    (λ k l. sym (method-read p es k (omega (arith, count-methods p es))))) in
     let ns : listed (λ n. valueOr (nodeIn bs n) noNode) (countIn bs 1) ≡ p .nodes =
-        sym (fill-by-all (λ n. valueOr (nodeIn bs n) noNode) (p .nodes) (countIn bs 1) noNode (sym (count-nodes p es))
-            (λ n l. let m : n < length (p .nodes) = omega (arith, count-nodes p es) in
-                sym (ap (λ o. valueOr o noNode) (node-read p es n m (law .node n m .0))))) in
+    sym (fill-by-all (λ n. valueOr (nodeIn bs n) noNode) (p .nodes) (countIn bs 1) noNode (sym (count-nodes p es))
+    (λ n l. let m : n < length (p .nodes) = omega (arith, count-nodes p es) in
+    sym (ap (λ o. valueOr o noNode) (node-read p es n m (law .node n m .0))))) in
     let rs : listed (rowIn bs) (countIn bs 3) ≡ p .rows =
-        sym (fill-by-all (rowIn bs) (p .rows) (countIn bs 3) noRow (sym (count-rows p es))
-            (λ r l. sym (row-read p es law r (omega (arith, count-rows p es))))) in
+    sym (fill-by-all (rowIn bs) (p .rows) (countIn bs 3) noRow (sym (count-rows p es))
+    (λ r l. sym (row-read p es law r (omega (arith, count-rows p es))))) in
     λ i. record { methods = ms i; nodes = ns i; rows = rs i }
 
 pub read-edges : (p : Program) (es : List Edge) → Lawful p es → edgesOf (bytesOf p es) ≡ es
 unfolding edgesOf
 read-edges p es law =
     sym (fill-by-all (edgeIn (bytesOf p es)) es (countIn (bytesOf p es) 2) noEdge (sym (count-edges p es))
-        (λ k l. sym (edge-read p es k (omega (arith, count-edges p es)))))
+    (λ k l. sym (edge-read p es k (omega (arith, count-edges p es)))))
 
 pub length-bytes : (p : Program) (es : List Edge) → Lawful p es → length (bytesOf p es) ≡ 16 + 4 * length (p .methods) + 8 * length (p .nodes) + 4 * length es + 32 * length (p .rows)
 unfolding bytesOf
 length-bytes p es law =
-    omega (arith, length-append (joined methodBytes (p .methods)) (nodes-part p es), length-append (joined nodeBytes (p .nodes)) (edges-part p es),
-        length-append (joined edgeBytes es) (rows-part p es), length-methods p es, length-nodes p es, length-edges p es,
-        length-joined rowBytes 32 noRow (p .rows) (rows-wide p es law))
+    omega (
+      arith,
+      length-append (joined methodBytes (p .methods)) (nodes-part p es),
+      length-append (joined nodeBytes (p .nodes)) (edges-part p es),
+      length-append (joined edgeBytes es) (rows-part p es),
+      length-methods p es,
+      length-nodes p es,
+      length-edges p es,
+      length-joined rowBytes 32 noRow (p .rows) (rows-wide p es law),
+    )
 
 -- where each test passes, nothing is refused
 pub none-of-all : (ts : List (Bool × Refusal)) → All (λ t. t .0 ≡ true) ts → firstOffence ts ≡ None
@@ -271,18 +278,37 @@ take-passes p es law =
     let e = count-edges p es in
     let r = count-rows p es in
     let l = length-bytes p es law in
-    none-of-all (takeTests (bytesOf p es))
-      ( le-leb _ _ (omega arith)
-      , ( within 1 256 (countIn (bytesOf p es) 0) (omega arith) (omega arith)
-      , ( within 1 1024 (countIn (bytesOf p es) 1) (omega arith) (omega arith)
-      , ( le-leb _ _ (omega arith)
-      , ( le-leb _ _ (omega arith)
-      , ( eq-eqb _ _ (place-methods p es)
-      , ( eq-eqb _ _ (omega (arith, place-methods p es, place-nodes p es))
-      , ( eq-eqb _ _ (omega (arith, place-nodes p es, place-edges p es))
-      , ( eq-eqb _ _ (omega (arith, place-edges p es, place-rows p es))
-      , ( eq-eqb _ _ (omega (arith, place-rows p es))
-      , tt))))))))))
+    none-of-all (takeTests (bytesOf p es)) (
+      le-leb _ _ (omega arith),
+      (
+        within 1 256 (countIn (bytesOf p es) 0) (omega arith) (omega arith),
+        (
+          within 1 1024 (countIn (bytesOf p es) 1) (omega arith) (omega arith),
+          (
+            le-leb _ _ (omega arith),
+            (
+              le-leb _ _ (omega arith),
+              (
+                eq-eqb _ _ (place-methods p es),
+                (
+                  eq-eqb _ _ (omega (arith, place-methods p es, place-nodes p es)),
+                  (
+                    eq-eqb _ _ (omega (arith, place-nodes p es, place-edges p es)),
+                    (
+                      eq-eqb _ _ (omega (arith, place-edges p es, place-rows p es)),
+                      (
+                        eq-eqb _ _ (omega (arith, place-rows p es)),
+                        tt,
+                      ),
+                    ),
+                  ),
+                ),
+              ),
+            ),
+          ),
+        ),
+      ),
+    )
 
 -- a kind that obeys its rules passes
 pub kind-passes : (methods rights : ℕ) (k : Kind) → KindRules methods rights k → kindFits methods rights k ≡ true
@@ -322,8 +348,8 @@ module _ (p : Program) (es : List Edge) (law : Lawful p es) where
       let sum = offset (programOf bs .methods) (suc k) in
       let upto : sum ≤ countIn bs 1 = omega (arith, offset-read (suc k), count-nodes p es, sum-passes k l .0) in
       and-from (leb 1 (methodIn bs k .nodes)) (leb sum (countIn bs 1) && (ltb (suc k) (countIn bs 0) || eqb sum (countIn bs 1)))
-        (le-leb 1 (methodIn bs k .nodes) some)
-        (and-from (leb sum (countIn bs 1)) (ltb (suc k) (countIn bs 0) || eqb sum (countIn bs 1)) (le-leb sum (countIn bs 1) upto) (last (sum-passes k l .1)))
+      (le-leb 1 (methodIn bs k .nodes) some)
+      (and-from (leb sum (countIn bs 1)) (ltb (suc k) (countIn bs 0) || eqb sum (countIn bs 1)) (le-leb sum (countIn bs 1) upto) (last (sum-passes k l .1)))
     where
       last : (suc k < length (p .methods)) ⊎ (offset (p .methods) (suc k) ≡ length (p .nodes)) → (ltb (suc k) (countIn bs 0) || eqb (offset (programOf bs .methods) (suc k)) (countIn bs 1)) ≡ true
       last (inl h) = or-left (ltb (suc k) (countIn bs 0)) (eqb (offset (programOf bs .methods) (suc k)) (countIn bs 1)) (lt-ltb (suc k) (countIn bs 0) (omega (arith, count-methods p es)))
@@ -349,8 +375,8 @@ module _ (p : Program) (es : List Edge) (law : Lawful p es) where
   unfolding edgeTest
   edge-test-passes i l =
       and-from (isEdge (programOf bs) (edgeIn bs i)) (risesAfter (edgeBefore bs i) (edgeIn bs i))
-        ((λ j. isEdge (read-program p es law j) (edge-read p es i l j)) ∙ edge-passes p (getD es i noEdge) (law .edge i l))
-        (rising i l)
+      ((λ j. isEdge (read-program p es law j) (edge-read p es i l j)) ∙ edge-passes p (getD es i noEdge) (law .edge i l))
+      (rising i l)
     where
       rising : (k : ℕ) → k < length es → risesAfter (edgeBefore bs k) (edgeIn bs k) ≡ true
       rising zero h = refl
@@ -376,19 +402,20 @@ check-passes p es law =
     let edges = each (countIn bs 2) (edgeTest bs) BadEdge in
     let rows = each (countIn bs 3) (rowTest bs) BadRow in
     both-none methods (nodes ++ (entries ++ (edges ++ rows)))
-      (each-none (methodTest bs) BadMethod (countIn bs 0) (λ k h. method-passes p es law k (omega (arith, count-methods p es))))
-      (both-none nodes (entries ++ (edges ++ rows))
-        (each-none (nodeTest bs) BadNode (countIn bs 1) (λ k h. node-passes p es law k (omega (arith, count-nodes p es))))
-        (both-none entries (edges ++ rows)
-          (each-none (entryTest bs) BadMethod (countIn bs 0) (λ k h. entry-passes p es law k (omega (arith, count-methods p es))))
-          (both-none edges rows
-            (each-none (edgeTest bs) BadEdge (countIn bs 2) (λ k h. edge-test-passes p es law k (omega (arith, count-edges p es))))
-            (each-none (rowTest bs) BadRow (countIn bs 3) (λ k h. row-passes p es law k (omega (arith, count-rows p es)))))))
+    (each-none (methodTest bs) BadMethod (countIn bs 0) (λ k h. method-passes p es law k (omega (arith, count-methods p es))))
+    (both-none nodes (entries ++ (edges ++ rows))
+    (each-none (nodeTest bs) BadNode (countIn bs 1) (λ k h. node-passes p es law k (omega (arith, count-nodes p es))))
+    (both-none entries (edges ++ rows)
+    (each-none (entryTest bs) BadMethod (countIn bs 0) (λ k h. entry-passes p es law k (omega (arith, count-methods p es))))
+    (both-none edges rows
+    (each-none (edgeTest bs) BadEdge (countIn bs 2) (λ k h. edge-test-passes p es law k (omega (arith, count-edges p es))))
+    (each-none (rowTest bs) BadRow (countIn bs 3) (λ k h. row-passes p es law k (omega (arith, count-rows p es)))))))
 
 pub legal-passes : (bs : List ℕ) → Legal bs → (firstOffence (takeTests bs) ≡ None) × (firstOffence (checkTests bs) ≡ None)
-legal-passes bs legal =
-    ( ap (λ xs. firstOffence (takeTests xs)) (legal .3) ∙ take-passes (legal .0) (legal .1) (legal .2)
-    , ap (λ xs. firstOffence (checkTests xs)) (legal .3) ∙ check-passes (legal .0) (legal .1) (legal .2))
+legal-passes bs legal = (
+  ap (λ xs. firstOffence (takeTests xs)) (legal .3) ∙ take-passes (legal .0) (legal .1) (legal .2),
+  ap (λ xs. firstOffence (checkTests xs)) (legal .3) ∙ check-passes (legal .0) (legal .1) (legal .2),
+)
 
 -- each of these bytes is below 256
 abbrev Small : List ℕ → Type 0
@@ -429,17 +456,24 @@ module _ (p : Program) (es : List Edge) (law : Lawful p es) where
   methods-small : Small (joined methodBytes (p .methods))
   methods-small = all-joined methodBytes (λ b. b < 256) noMethod (p .methods) (λ k l.
       two-small (methodAt p k .rights) (methodAt p k .nodes) (rights-small k)
-        (omega (arith, offset-step (p .methods) k, sum-passes p es law k l .0, law .few-nodes)))
+      (omega (arith, offset-step (p .methods) k, sum-passes p es law k l .0, law .few-nodes)))
 
   nodes-small : Small (joined nodeBytes (p .nodes))
-  nodes-small = all-joined nodeBytes (λ b. b < 256) noNode (p .nodes) (λ n l.
-      ( number-small (nodeAt p n .kind), (omega (arith, law .node n l .0), (flags-small (nodeAt p n .entry) (nodeAt p n .kind)
-      , operands-small (length (p .methods)) (rightsOf p n) (nodeAt p n .kind) (law .few-methods) (rights-small (home (p .methods) n)) (law .node n l .1)))))
+  nodes-small = all-joined nodeBytes (λ b. b < 256) noNode (p .nodes) (λ n l. (
+    number-small (nodeAt p n .kind),
+    (
+      omega (arith, law .node n l .0),
+      (
+        flags-small (nodeAt p n .entry) (nodeAt p n .kind),
+        operands-small (length (p .methods)) (rightsOf p n) (nodeAt p n .kind) (law .few-methods) (rights-small (home (p .methods) n)) (law .node n l .1),
+      ),
+    ),
+  ))
 
   edges-small : Small (joined edgeBytes es)
   edges-small = all-joined edgeBytes (λ b. b < 256) noEdge es (λ k l.
       two-small (getD es k noEdge .from) (getD es k noEdge .to)
-        (omega (arith, law .edge k l .leaves, law .few-nodes)) (omega (arith, law .edge k l .arrives, law .few-nodes)))
+      (omega (arith, law .edge k l .leaves, law .few-nodes)) (omega (arith, law .edge k l .arrives, law .few-nodes)))
 
   cell-small : (c : ℕ) → CellRules p c → c < 256
   cell-small c h = omega (arith, law .few-rows)
@@ -447,7 +481,7 @@ module _ (p : Program) (es : List Edge) (law : Lawful p es) where
   rows-small : Small (joined rowBytes (p .rows))
   rows-small = all-joined rowBytes (λ b. b < 256) noRow (p .rows) (λ r l.
       all-from-getD (λ b. b < 256) (getD (p .rows) r noRow) 0 (λ c m.
-        cell-small (getD (getD (p .rows) r noRow) c 0) (law .row r l .cells c (omega (arith, law .row r l .wide)))))
+      cell-small (getD (getD (p .rows) r noRow) c 0) (law .row r l .cells c (omega (arith, law .row r l .wide)))))
 
   contents-small : Small (contentsBytes (length (p .methods)) (length (p .nodes)) (length es) (length (p .rows)))
   contents-small = omega arith
@@ -456,9 +490,9 @@ module _ (p : Program) (es : List Edge) (law : Lawful p es) where
   unfolding bytesOf
   all-small =
       all-append (λ b. b < 256) (contentsBytes (length (p .methods)) (length (p .nodes)) (length es) (length (p .rows))) (joined methodBytes (p .methods) ++ nodes-part p es) contents-small
-        (all-append (λ b. b < 256) (joined methodBytes (p .methods)) (nodes-part p es) methods-small
-          (all-append (λ b. b < 256) (joined nodeBytes (p .nodes)) (edges-part p es) nodes-small
-            (all-append (λ b. b < 256) (joined edgeBytes es) (rows-part p es) edges-small rows-small)))
+      (all-append (λ b. b < 256) (joined methodBytes (p .methods)) (nodes-part p es) methods-small
+      (all-append (λ b. b < 256) (joined nodeBytes (p .nodes)) (edges-part p es) nodes-small
+      (all-append (λ b. b < 256) (joined edgeBytes es) (rows-part p es) edges-small rows-small)))
 
 pub bytes-small : (p : Program) (es : List Edge) → Lawful p es → (i : ℕ) → byteAt (bytesOf p es) i < 256
 bytes-small p es law i = at (cases-lt i (length (bytesOf p es)))

@@ -62,7 +62,7 @@ sum-more bs k lt =
 
 -- the test of a method over the running sum
 pub method-test : (bs : List ℕ) (k sum own : ℕ) → k < countIn bs 0 → sum ≡ offset (programOf bs .methods) k → own ≡ methodIn bs k .nodes
-  → methodTest bs k ≡ (leb 1 own && (leb (sum + own) (countIn bs 1) && (ltb (k + 1) (countIn bs 0) || eqb (sum + own) (countIn bs 1))))
+    → methodTest bs k ≡ (leb 1 own && (leb (sum + own) (countIn bs 1) && (ltb (k + 1) (countIn bs 0) || eqb (sum + own) (countIn bs 1))))
 unfolding methodTest
 method-test bs k sum own lt s o =
     let h : offset (programOf bs .methods) (suc k) ≡ sum + own = rw add-one at (sum-more bs k lt) ∙ ap₂' s o in
@@ -93,7 +93,7 @@ home-in bs s n of low high =
 
 -- the test of a node, over the span that it lies in
 pub node-test : (bs : List ℕ) (s : Span) (n rights : ℕ) → SpanOf bs s → s .start ≤ n → n < s .end → rights ≡ methodIn bs (s .method) .rights
-  → nodeTest bs n ≡ recordFits (countIn bs 0) rights (nodeIn bs n)
+    → nodeTest bs n ≡ recordFits (countIn bs 0) rights (nodeIn bs n)
 unfolding nodeTest
 node-test bs s n rights of low high e =
     let h = ap (λ k. methodAt (programOf bs) k .rights) (home-in bs s n of low high) in
@@ -106,27 +106,31 @@ span-within bs sum k lt = let h = offset-mono (programOf bs .methods) (k + 1) (c
 
 -- the test of a method's entries, over its first node and its node count
 pub entry-test : (bs : List ℕ) (k first own : ℕ) → first ≡ offset (programOf bs .methods) k → own ≡ methodIn bs k .nodes
-  → entryTest bs k ≡ anyBelow own (λ j. nodeAt (programOf bs) (first + j) .entry)
+    → entryTest bs k ≡ anyBelow own (λ j. nodeAt (programOf bs) (first + j) .entry)
 unfolding entryTest
 entry-test bs k first own f o = λ i. anyBelow (sym o i) (λ j. nodeAt (programOf bs) (sym f i + j) .entry)
 
 -- the test of an edge from f to t, whose homes are hf and ht, over the span from st to en of the method m that f is of
 edge-over : (f t n st en hf ht m : ℕ) (ret : Bool) → f < n → hf ≡ m → ((st ≤ t) → (t < en) → (t < n) × (ht ≡ m)) → (t < n → ht ≡ m → (st ≤ t) × (t < en))
-  → (ltb f n && (ltb t n && (not ret && eqb hf ht))) ≡ (leb st t && (ltb t en && not ret))
+    → (ltb f n && (ltb t n && (not ret && eqb hf ht))) ≡ (leb st t && (ltb t en && not ret))
 edge-over f t n st en hf ht m ret lt e inside outside =
     elim (cases-lt t st) [
-      inl below ↦ elim (cases-lt t n) [
-        inl few ↦ elim (cases-eq ht m) [ inl same ↦ absurd (let o = outside few same in omega arith) | inr other ↦ grind (arith, tells) ]
-      | inr many ↦ grind (arith, tells) ]
-    | inr low ↦ elim (cases-lt t en) [
-        inl high ↦ let i = inside low high in grind (arith, tells)
-      | inr above ↦ elim (cases-lt t n) [
-          inl few ↦ elim (cases-eq ht m) [ inl same ↦ absurd (let o = outside few same in omega arith) | inr other ↦ grind (arith, tells) ]
-        | inr many ↦ grind (arith, tells) ] ] ]
+      | inl below ↦ elim (cases-lt t n) [
+        | inl few ↦ elim (cases-eq ht m) [ inl same ↦ absurd (let o = outside few same in omega arith) | inr other ↦ grind (arith, tells) ]
+        | inr many ↦ grind (arith, tells)
+      ]
+      | inr low ↦ elim (cases-lt t en) [
+        | inl high ↦ let i = inside low high in grind (arith, tells)
+        | inr above ↦ elim (cases-lt t n) [
+          | inl few ↦ elim (cases-eq ht m) [ inl same ↦ absurd (let o = outside few same in omega arith) | inr other ↦ grind (arith, tells) ]
+          | inr many ↦ grind (arith, tells)
+        ]
+      ]
+    ]
 
 -- an edge that leaves a node of a span is one by the rules where it arrives in the span and leaves no return
 pub edge-test : (bs : List ℕ) (s : Span) (e : Edge) → Summed bs → SpanOf bs s → s .start ≤ e .from → e .from < s .end
-  → isEdge (programOf bs) e ≡ (leb (s .start) (e .to) && (ltb (e .to) (s .end) && not (isReturn (nodeAt (programOf bs) (e .from) .kind))))
+    → isEdge (programOf bs) e ≡ (leb (s .start) (e .to) && (ltb (e .to) (s .end) && not (isReturn (nodeAt (programOf bs) (e .from) .kind))))
 edge-test bs s e sum of low high =
     let ms = programOf bs .methods in
     let n = nodes-length bs in
@@ -136,11 +140,11 @@ edge-test bs s e sum of low high =
     edge-over (e .from) (e .to) (length (programOf bs .nodes)) (s .start) (s .end) (home ms (e .from)) (home ms (e .to)) (s .method) _ (omega arith) (home-in bs s (e .from) of low high)
     (λ a b. (omega arith, home-in bs s (e .to) of a b))
     (λ few same.
-        let w = home-within ms (e .to) (let g = ap (offset ms) l in omega arith) in
-        let x : offset ms (s .method) ≤ e .to = rw same at (w .1) in
-        let y : e .to < offset ms (suc (s .method)) = rw same at (w .2) in
-        let z = ap (offset ms) some in
-        (omega arith, omega arith))
+    let w = home-within ms (e .to) (let g = ap (offset ms) l in omega arith) in
+    let x : offset ms (s .method) ≤ e .to = rw same at (w .1) in
+    let y : e .to < offset ms (suc (s .method)) = rw same at (w .2) in
+    let z = ap (offset ms) some in
+    (omega arith, omega arith))
 
 -- the test of an edge record, over the edge and the one before it
 pub edge-record : (bs : List ℕ) (i : ℕ) (last : Option Edge) (e : Edge) → e ≡ edgeIn bs i → last ≡ edgeBefore bs i → edgeTest bs i ≡ (isEdge (programOf bs) e && risesAfter last e)

@@ -5,7 +5,7 @@ use mathlib.Core.List.{List}
 use Prim.Native.Nat.{ℕ}
 use native.Mathlib.Omega.{arith}
 use Rattle.std.specs.Orderings.{Decides}
-use Rattle.std.specs.Results.{errPart, isOk}
+use Rattle.std.specs.Results.{errPart, isOk, isErr}
 use Rattle.std.specs.declared.option.Option.{Option}
 use Rattle.std.specs.declared.option.Option.the-variants.{Some, None}
 use Rattle.std.specs.declared.result.Result.{Result}
@@ -32,3 +32,8 @@ legal-taken bs r e l = ok-from-none r (e ∙ legal-passes bs l .0)
 -- of the files that were taken, exactly the legal ones are checked
 pub legal-checked : {T : Type 0} (bs : List ℕ) (r : Result T Refusal) → Small bs → Taken bs → errPart r ≡ firstOffence (checkTests bs) → Decides (isOk r) (Legal bs)
 legal-checked bs r s t e = (λ o. legal bs s t (checked bs (sym e ∙ none-from-ok r o)), λ l. ok-from-none r (e ∙ legal-passes bs l .1))
+
+-- what is refused is not legal
+pub refused-read : {T : Type 0} {P : Type 0} (r : Result T Refusal) → isErr r ≡ true → (P → ⊥) → Decides (isOk r) P
+refused-read (Ok x) e no′ = let z : _≡_ {A = ℕ} 0 1 = cc in absurd (omega arith)
+refused-read (Err y) e no′ = (λ o. let z : _≡_ {A = ℕ} 0 1 = cc in absurd (omega arith), λ l. absurd (no′ l))

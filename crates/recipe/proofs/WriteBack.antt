@@ -129,14 +129,15 @@ module _ (bs : List ℕ) (s : Small bs) (t : Taken bs) (c : Checked bs) where
   cell-rules r lt k few =
       let h = allBelow-at 32 (cellTest bs r) (c .rows r lt) k few in
       elim (or-cases (ltb (cellIn bs r k) (countIn bs 3)) (eqb (cellIn bs r k) 255) h) [
-        inl h ↦ inl (rw (rows-length bs) (ltb-true (cellIn bs r k) (countIn bs 3) h))
-      | inr h ↦ inr (eqb-true (cellIn bs r k) 255 h) ]
+        | inl h ↦ inl (rw (rows-length bs) (ltb-true (cellIn bs r k) (countIn bs 3) h))
+        | inr h ↦ inr (eqb-true (cellIn bs r k) 255 h)
+      ]
 
   pub row-rules : (r : ℕ) → r < countIn bs 3 → RowRules (programOf bs) (rowIn bs r)
   row-rules r lt = record {
-      wide = length-map-counting (cellIn bs r) 0 32;
-      cells = λ k few. rw (getD-map-counting (cellIn bs r) 0 32 k k 0 few (omega arith)) (cell-rules r lt k few);
-    }
+    wide = length-map-counting (cellIn bs r) 0 32;
+    cells = λ k few. rw (getD-map-counting (cellIn bs r) 0 32 k k 0 few (omega arith)) (cell-rules r lt k few);
+  }
 
   pub edge-told : (i : ℕ) → i < countIn bs 2 → (isEdge (programOf bs) (edgeIn bs i) ≡ true) × (risesAfter (edgeBefore bs i) (edgeIn bs i) ≡ true)
   unfolding edgeTest
@@ -161,9 +162,9 @@ module _ (bs : List ℕ) (s : Small bs) (t : Taken bs) (c : Checked bs) where
         node = λ n lt. node-rules n (omega arith);
         edge = λ i lt. let h : i < countIn bs 2 = omega arith in rw (edge-at bs i h) (edge-rules (programOf bs) (edgeIn bs i) (edge-told i h .0));
         rising = λ i lt.
-          let h : i < countIn bs 2 = omega arith in
-          let h′ : suc i < countIn bs 2 = omega arith in
-          rw (edge-at bs i h, edge-at bs (suc i) h′) (rise-rules (edgeIn bs i) (edgeIn bs (suc i)) (edge-told (suc i) h′ .1));
+            let h : i < countIn bs 2 = omega arith in
+            let h′ : suc i < countIn bs 2 = omega arith in
+            rw (edge-at bs i h, edge-at bs (suc i) h′) (rise-rules (edgeIn bs i) (edgeIn bs (suc i)) (edge-told (suc i) h′ .1));
         row = λ r lt. let h : r < countIn bs 3 = omega arith in rw (row-at bs r h) (row-rules r h);
       }
 
@@ -208,25 +209,25 @@ module _ (bs : List ℕ) (s : Small bs) (t : Taken bs) (c : Checked bs) where
       let start : nodesAt bs ≡ nodesAt bs + 8 * 0 = omega arith in
       ap (λ i. drop i bs) start
       ∙ chunks nodeBytes (λ n. valueOr (nodeIn bs n) noNode) (λ n. nodesAt bs + 8 * n) bs (countIn bs 1) (λ n lt.
-        let e : nodesAt bs + 8 * n + 8 ≡ nodesAt bs + 8 * (n + 1) = omega arith in
-        let some = fits-some (countIn bs 0) (rightsOf (programOf bs) n) (nodeIn bs n) (c .nodes n lt) in
-        node-bytes-at bs s (nodesAt bs + 8 * n) (valueOr (nodeIn bs n) noNode) some (omega arith) ∙ ap (λ j. nodeBytes (valueOr (nodeIn bs n) noNode) ++ drop j bs) e)
+      let e : nodesAt bs + 8 * n + 8 ≡ nodesAt bs + 8 * (n + 1) = omega arith in
+      let some = fits-some (countIn bs 0) (rightsOf (programOf bs) n) (nodeIn bs n) (c .nodes n lt) in
+      node-bytes-at bs s (nodesAt bs + 8 * n) (valueOr (nodeIn bs n) noNode) some (omega arith) ∙ ap (λ j. nodeBytes (valueOr (nodeIn bs n) noNode) ++ drop j bs) e)
 
   pub edges-written : drop (edgesAt bs) bs ≡ joined edgeBytes (listed (edgeIn bs) (countIn bs 2)) ++ drop (rowsAt bs) bs
   edges-written =
       let start : edgesAt bs ≡ edgesAt bs + 4 * 0 = omega arith in
       ap (λ i. drop i bs) start
       ∙ chunks edgeBytes (edgeIn bs) (λ i. edgesAt bs + 4 * i) bs (countIn bs 2) (λ i lt.
-        let e : edgesAt bs + 4 * i + 4 ≡ edgesAt bs + 4 * (i + 1) = omega arith in
-        words-at bs s (edgesAt bs + 4 * i) (edgesAt bs + 4 * i + 2) refl (omega arith) ∙ ap (λ j. edgeBytes (edgeIn bs i) ++ drop j bs) e)
+      let e : edgesAt bs + 4 * i + 4 ≡ edgesAt bs + 4 * (i + 1) = omega arith in
+      words-at bs s (edgesAt bs + 4 * i) (edgesAt bs + 4 * i + 2) refl (omega arith) ∙ ap (λ j. edgeBytes (edgeIn bs i) ++ drop j bs) e)
 
   pub rows-written : drop (rowsAt bs) bs ≡ joined rowBytes (listed (rowIn bs) (countIn bs 3)) ++ drop (endAt bs) bs
   rows-written =
       let start : rowsAt bs ≡ rowsAt bs + 32 * 0 = omega arith in
       ap (λ i. drop i bs) start
       ∙ chunks rowBytes (rowIn bs) (λ r. rowsAt bs + 32 * r) bs (countIn bs 3) (λ r lt.
-        let e : rowsAt bs + 32 * r + 32 ≡ rowsAt bs + 32 * (r + 1) = omega arith in
-        drop-read 0 bs (rowsAt bs + 32 * r) 32 (omega arith) ∙ ap (λ j. rowBytes (rowIn bs r) ++ drop j bs) e)
+      let e : rowsAt bs + 32 * r + 32 ≡ rowsAt bs + 32 * (r + 1) = omega arith in
+      drop-read 0 bs (rowsAt bs + 32 * r) 32 (omega arith) ∙ ap (λ j. rowBytes (rowIn bs r) ++ drop j bs) e)
 
   -- the file of the program that the bytes say, with these counts in its table of contents
   abbrev file : ℕ → ℕ → ℕ → ℕ → List ℕ

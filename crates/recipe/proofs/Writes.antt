@@ -28,7 +28,7 @@ module _ (r : Recipe) where
 
   -- the length of the file, from where the edges lie
   pub file-length : (es : List Edge) (k : ℕ) → k ≡ length (listedEdges (program r) es)
-    → r .layout .contents .edges .place + 4 * k + 32 * r .layout .contents .rows .count ≡ length (fileWith (program r) es)
+      → r .layout .contents .edges .place + 4 * k + 32 * r .layout .contents .rows .count ≡ length (fileWith (program r) es)
   file-length es k e =
       let l = length-bytes (program r) (listedEdges (program r) es) (stands-with es) in
       let m = methods-count r in
@@ -81,8 +81,8 @@ module _ (r : Recipe) where
       ∙ ap (λ k. drop k bs) (rows-place (r .layout)) ∙ rows-written bs (r .layout .bytes) t (passes r) ∙ ap (λ l. rs ++ l) (drop-all (endAt bs) bs (omega arith)) ∙ append-nil rs
 
   pub pieces : (es : List Edge) (k : ℕ) (h b j t : List ℕ) → k ≡ length (listedEdges (program r) es)
-    → h ≡ contentsBytes (length (program r .methods)) (length (program r .nodes)) k (length (program r .rows))
-    → b ≡ ms ++ ns → j ≡ joined edgeBytes (listedEdges (program r) es) → t ≡ rs → ((h ++ b) ++ j) ++ t ≡ fileWith (program r) es
+      → h ≡ contentsBytes (length (program r .methods)) (length (program r .nodes)) k (length (program r .rows))
+      → b ≡ ms ++ ns → j ≡ joined edgeBytes (listedEdges (program r) es) → t ≡ rs → ((h ++ b) ++ j) ++ t ≡ fileWith (program r) es
   unfolding bytesOf
   pieces es k h b j t ke he be je te =
       let p = program r in
@@ -93,13 +93,13 @@ module _ (r : Recipe) where
 
   -- the pieces one after another make the file, and past it the output is as it was
   pub assembled : (es : List Edge) (k : ℕ) (xs h b j t out1 out2 out3 out4 : List ℕ) → k ≡ length (listedEdges (program r) es) → length (fileWith (program r) es) ≤ length xs
-    → h ≡ contentsBytes (length (program r .methods)) (length (program r .nodes)) k (length (program r .rows))
-    → b ≡ ms ++ ns → j ≡ joined edgeBytes (listedEdges (program r) es) → t ≡ rs
-    → out1 ≡ take 0 xs ++ (h ++ drop (0 + length h) xs)
-    → out2 ≡ take 16 out1 ++ (b ++ drop (16 + length b) out1)
-    → out3 ≡ take (r .layout .contents .edges .place) out2 ++ (j ++ drop (r .layout .contents .edges .place + 4 * k) out2)
-    → out4 ≡ take (r .layout .contents .edges .place + 4 * k) out3 ++ (t ++ drop (r .layout .contents .edges .place + 4 * k + length t) out3)
-    → out4 ≡ fileWith (program r) es ++ drop (length (fileWith (program r) es)) xs
+      → h ≡ contentsBytes (length (program r .methods)) (length (program r .nodes)) k (length (program r .rows))
+      → b ≡ ms ++ ns → j ≡ joined edgeBytes (listedEdges (program r) es) → t ≡ rs
+      → out1 ≡ take 0 xs ++ (h ++ drop (0 + length h) xs)
+      → out2 ≡ take 16 out1 ++ (b ++ drop (16 + length b) out1)
+      → out3 ≡ take (r .layout .contents .edges .place) out2 ++ (j ++ drop (r .layout .contents .edges .place + 4 * k) out2)
+      → out4 ≡ take (r .layout .contents .edges .place + 4 * k) out3 ++ (t ++ drop (r .layout .contents .edges .place + 4 * k + length t) out3)
+      → out4 ≡ fileWith (program r) es ++ drop (length (fileWith (program r) es)) xs
   assembled es k xs h b j t out1 out2 out3 out4 ke room he be je te e1 e2 e3 e4 =
       let at = r .layout .contents .edges .place in
       let p = program r in
@@ -119,3 +119,20 @@ module _ (r : Recipe) where
       let rsl : at + 4 * k + length t ≤ length xs = let w = ap length whole in let n3 = length-append ((h ++ b) ++ j) t in omega arith in
       let f4 = put-after xs ((h ++ b) ++ j) t out3 out4 (at + 4 * k) f3 (omega arith) (omega arith) rsl e4 in
       f4 ∙ (λ i. whole i ++ drop (length (whole i)) xs)
+
+  -- the file is legal, and reads back as the same program with the edges that counted
+  pub written-legal : (es : List Edge) → Legal (fileWith (program r) es)
+  written-legal es = (program r, listedEdges (program r) es, stands-with es, refl)
+
+  pub written-program : (es : List Edge) → programOf (fileWith (program r) es) ≡ program r
+  written-program es = read-program (program r) (listedEdges (program r) es) (stands-with es)
+
+  pub written-edges : (es : List Edge) → edgesOf (fileWith (program r) es) ≡ listedEdges (program r) es
+  written-edges es = read-edges (program r) (listedEdges (program r) es) (stands-with es)
+
+  -- with the recipe's own edges it is the recipe's own file
+  pub written-same : (es : List Edge) → es ≡ ownEdges r → fileWith (program r) es ≡ fileOf r
+  written-same es e =
+      let law = stands r in
+      let few : take 4096 (ownEdges r) ≡ ownEdges r = take-all 4096 (ownEdges r) (law .few-edges) in
+      ap (fileWith (program r)) e ∙ ap (λ l. bytesOf (program r) (counted (program r) l)) few ∙ ap (bytesOf (program r)) (lawful-counted (program r) (ownEdges r) law) ∙ sym (is-written r)

@@ -1,12 +1,13 @@
 // Checks a draft: methods, nodes, methods lacking an entry, edges, rows, in this order.
 ghost use mathlib.Core.Path.{_≡_};
 ghost use mathlib.Core.Bool.{true};
+ghost use mathlib.Core.List.{_++_};
 ghost use Prim.Native.Nat.{ℕ, suc, _+_, _*_, _<_, _≤_};
 ghost use Rattle.std.specs.Orderings.{Decides};
 ghost use Rattle.std.specs.Results.{errPart, isOk, Cases};
 ghost use Rattle.recipe.specs.Bytes.{countIn, programOf};
 ghost use Rattle.recipe.specs.declared.grounds.Refusal.the-variants.{BadMethod, BadNode, BadEdge, BadRow};
-ghost use Rattle.recipe.specs.Offence.{firstOffence, each, methodTest, nodeTest, entryTest, edgeTest, rowTest, checkTests};
+ghost use Rattle.recipe.specs.Offence.{firstOffence, each, methodTest, nodeTest, entryTest, edgeTest, rowTest, takeTests, checkTests};
 ghost use Rattle.model.specs.Program.{nodeAt, isReturn, isEdge, risesAfter};
 ghost use Rattle.recipe.specs.Bytes.{nodeIn};
 ghost use Rattle.recipe.specs.Offence.{anyBelow, kindFits, recordFits};
@@ -17,6 +18,7 @@ use crate::Layout;
 use crate::Recipe;
 use crate::Refusal;
 use crate::spans::Span;
+use crate::take;
 use model::Edge;
 use model::Kind;
 
@@ -25,7 +27,12 @@ fn kind_fits(kind: Kind, methods: u32, rights: u32) -> bool
     ensures { λ r. ⌜ r ≡ kindFits methods rights kind ⌝ }
 {
     match kind {
-        Kind::Call { callee, grant, accept, .. } => callee < methods && grant & rights == grant && accept & rights == accept,
+        Kind::Call {
+            callee,
+            grant,
+            accept,
+            ..
+        } => callee < methods && grant & rights == grant && accept & rights == accept,
         Kind::Nop | Kind::Check { .. } | Kind::Return => true,
     }
 }
@@ -41,7 +48,7 @@ fn is_return(kind: Kind) -> bool
 }
 
 // Whether e rises above the last edge that counted.
-pub fn rises_after(last: Option<Edge>, e: Edge) -> bool
+pub(crate) fn rises_after(last: Option<Edge>, e: Edge) -> bool
     ensures { λ r. ⌜ r ≡ risesAfter last e ⌝ }
 {
     match last {
@@ -127,7 +134,7 @@ impl Layout<'_> {
     }
 
     // Whether e is an edge by the rules; the span is that of the node it leaves.
-    pub fn edge_fits(&self, span: Span, e: Edge) -> bool
+    pub(crate) fn edge_fits(&self, span: Span, e: Edge) -> bool
         requires sums { ⌜ Summed (now (now self .file)) ⌝ }
         requires spans { ⌜ SpanOf (now (now self .file)) span ⌝ }
         requires low { ⌜ span .start ≤ e .from ⌝ }
@@ -212,4 +219,15 @@ pub fn check<'a>(draft: Draft<'a>, recipe: &mut Recipe<'a>) -> Result<(), Refusa
     layout.check_all()?;
     *recipe = Recipe { layout };
     Ok(())
+}
+
+// Takes and checks a file: fills the recipe with it exactly if it is legal, else leaves the recipe as it was.
+pub fn read<'a>(file: &'a [u8], recipe: &mut Recipe<'a>) -> Result<(), Refusal>
+    ensures answer { λ r. ⌜ errPart r ≡ firstOffence (takeTests (now (file .entry)) ++ checkTests (now (file .entry))) ⌝ }
+    ensures filled { λ r. ⌜ Cases r (λ _. now (now (recipe .exit) .layout .file) ≡ now (file .entry)) (λ _. now (recipe .exit) ≡ now (recipe .entry)) ⌝ }
+    ensures legal { λ r. ⌜ Decides (isOk r) (Legal (now (file .entry))) ⌝ }
+{
+    let mut draft = Draft::built_in();
+    take(file, &mut draft)?;
+    check(draft, recipe)
 }

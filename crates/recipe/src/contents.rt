@@ -2,14 +2,14 @@
 
 // Where a body lies in the file, and how many records it has.
 #[derive(Clone, Copy)]
-pub struct Body {
+pub(crate) struct Body {
     pub place: u16,
     pub count: u16,
 }
 
 // The four bodies, in the order of the file.
 #[derive(Clone, Copy)]
-pub struct Contents {
+pub(crate) struct Contents {
     pub methods: Body,
     pub nodes: Body,
     pub edges: Body,

@@ -6,6 +6,7 @@ ghost use mathlib.Core.Bool.{true};
 ghost use Rattle.recipe.specs.Bytes.{placeIn, countIn};
 ghost use Rattle.recipe.specs.Offence.{methodTest, nodeTest, entryTest, edgeTest, rowTest};
 
+mod built_in;
 mod checking;
 mod contents;
 mod grounds;
@@ -18,17 +19,20 @@ mod taking;
 mod writing;
 
 pub use checking::check;
-pub use contents::Body;
-pub use contents::Contents;
+pub use checking::read;
 pub use grounds::Refusal;
+pub use model::Edge;
+pub use model::Kind;
+pub use model::Method;
+pub use model::Node;
 pub use taking::take;
 pub use writing::write;
 
 // A lent file whose table of contents and length are right: four bodies without gaps.
 #[derive(Drop)]
-pub struct Layout<'a> {
+pub(crate) struct Layout<'a> {
     file: &'a [u8],
-    contents: Contents,
+    contents: contents::Contents,
     ghost bytes: { (i : ℕ) → getD (file .now) i 0 < 256 },
     ghost methods_told: { (contents .methods .place ≡ placeIn (file .now) 0) × (contents .methods .count ≡ countIn (file .now) 0) },
     ghost nodes_told: { (contents .nodes .place ≡ placeIn (file .now) 1) × (contents .nodes .count ≡ countIn (file .now) 1) },

@@ -42,20 +42,32 @@ impl Recipe<'_> {
     pub fn method(&self, k: u32) -> Option<Method>
         ensures { λ r. ⌜ r ≡ nth (program (now (self .entry)) .methods) k ⌝ }
     {
-        if k < self.methods() { Some(self.layout.method(k as usize)) } else { None }
+        if k < self.methods() {
+            Some(self.layout.method(k as usize))
+        } else {
+            None
+        }
     }
 
     pub fn node(&self, n: u32) -> Option<Node>
         ensures { λ r. ⌜ r ≡ nth (program (now (self .entry)) .nodes) n ⌝ }
     {
-        if n < self.nodes() { self.layout.node(n as usize) } else { None }
+        if n < self.nodes() {
+            self.layout.node(n as usize)
+        } else {
+            None
+        }
     }
 
     // An edge of the file.
     pub fn edge(&self, i: u32) -> Option<Edge>
         ensures { λ r. ⌜ r ≡ nth (ownEdges (now (self .entry))) i ⌝ }
     {
-        if i < self.edges() { Some(self.layout.edge(i as usize)) } else { None }
+        if i < self.edges() {
+            Some(self.layout.edge(i as usize))
+        } else {
+            None
+        }
     }
 
     // Where a row leads on a mark: a row, or 255.

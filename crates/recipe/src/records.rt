@@ -11,7 +11,7 @@ use model::Method;
 use model::Node;
 
 // Two bytes as a number, the greater one first.
-pub fn word(bytes: &[u8], at: usize) -> u16
+pub(crate) fn word(bytes: &[u8], at: usize) -> u16
     requires { ⌜ at + 1 < length (now bytes) ⌝ }
     ensures { λ r. ⌜ r ≡ wordAt (now (bytes .entry)) at ⌝ }
 {
@@ -25,7 +25,12 @@ fn kind_of(kind: u8, flags: u8, callee: u32, grant: u32, accept: u32) -> Option<
     let plain = flags < 2 && callee == 0 && accept == 0;
     match kind {
         0 if plain && grant == 0 => Some(Kind::Nop),
-        1 if flags < 4 => Some(Kind::Call { callee, grant, accept, privileged: flags >= 2 }),
+        1 if flags < 4 => Some(Kind::Call {
+            callee,
+            grant,
+            accept,
+            privileged: flags >= 2,
+        }),
         2 if plain => Some(Kind::Check { required: grant }),
         3 if plain && grant == 0 => Some(Kind::Return),
         _ => None,
@@ -44,22 +49,29 @@ fn node_of(bytes: &[u8]) -> Option<Node>
     let accept = a1 as u32 * 256 + a0 as u32;
     let kind = kind_of(kind, flags, callee as u32, grant, accept)?;
     if mark < 32 {
-        Some(Node { kind, mark: mark as u32, entry: flags % 2 == 1 })
+        Some(Node {
+            kind,
+            mark: mark as u32,
+            entry: flags % 2 == 1,
+        })
     } else {
         None
     }
 }
 
 impl Layout<'_> {
-    pub fn method(&self, k: usize) -> Method
+    pub(crate) fn method(&self, k: usize) -> Method
         requires { ⌜ k < now self .contents .methods .count ⌝ }
         ensures { λ r. ⌜ r ≡ methodIn (now (now (self .entry) .file)) k ⌝ }
     {
         let at = self.contents.methods.place as usize + 4 * k;
-        Method { rights: word(self.file, at) as u32, nodes: word(self.file, at + 2) as u32 }
+        Method {
+            rights: word(self.file, at) as u32,
+            nodes: word(self.file, at + 2) as u32,
+        }
     }
 
-    pub fn node(&self, n: usize) -> Option<Node>
+    pub(crate) fn node(&self, n: usize) -> Option<Node>
         requires { ⌜ n < now self .contents .nodes .count ⌝ }
         ensures { λ r. ⌜ r ≡ nodeIn (now (now (self .entry) .file)) n ⌝ }
     {
@@ -68,25 +80,32 @@ impl Layout<'_> {
     }
 
     // The node, or the one that stands for none.
-    pub fn node_at(&self, n: usize) -> Node
+    pub(crate) fn node_at(&self, n: usize) -> Node
         requires { ⌜ n < now self .contents .nodes .count ⌝ }
         ensures { λ r. ⌜ r ≡ nodeAt (programOf (now (now (self .entry) .file))) n ⌝ }
     {
         match self.node(n) {
             Some(node) => node,
-            None => Node { kind: Kind::Return, mark: 0, entry: false },
+            None => Node {
+                kind: Kind::Return,
+                mark: 0,
+                entry: false,
+            },
         }
     }
 
-    pub fn edge(&self, i: usize) -> Edge
+    pub(crate) fn edge(&self, i: usize) -> Edge
         requires { ⌜ i < now self .contents .edges .count ⌝ }
         ensures { λ r. ⌜ r ≡ edgeIn (now (now (self .entry) .file)) i ⌝ }
     {
         let at = self.contents.edges.place as usize + 4 * i;
-        Edge { from: word(self.file, at) as u32, to: word(self.file, at + 2) as u32 }
+        Edge {
+            from: word(self.file, at) as u32,
+            to: word(self.file, at + 2) as u32,
+        }
     }
 
-    pub fn cell(&self, row: usize, mark: usize) -> u32
+    pub(crate) fn cell(&self, row: usize, mark: usize) -> u32
         requires { ⌜ row < now self .contents .rows .count ⌝ ∗ ⌜ mark < 32 ⌝ }
         ensures { λ r. ⌜ r ≡ cellIn (now (now (self .entry) .file)) row mark ⌝ }
     {

@@ -8,15 +8,19 @@ use crate::spans::Span;
 
 impl Layout<'_> {
     // The span of the first method.
-    pub fn first_span(&self) -> Span
+    pub(crate) fn first_span(&self) -> Span
         ensures spans { λ r. ⌜ SpanOf (now (now (self .entry) .file)) r ⌝ }
         ensures first { λ r. ⌜ r .start ≡ 0 ⌝ }
     {
-        Span { method: 0, start: 0, end: self.method(0).nodes as usize }
+        Span {
+            method: 0,
+            start: 0,
+            end: self.method(0).nodes as usize,
+        }
     }
 
     // The span that has node n: this one, or one after it.
-    pub fn seek(&self, span: Span, n: usize) -> Span
+    pub(crate) fn seek(&self, span: Span, n: usize) -> Span
         requires sums { ⌜ Summed (now (now self .file)) ⌝ }
         requires spans { ⌜ SpanOf (now (now self .file)) span ⌝ }
         requires low { ⌜ span .start ≤ n ⌝ }
@@ -29,7 +33,11 @@ impl Layout<'_> {
         while n >= at.end {
             let method = at.method + 1;
             let own = self.method(method).nodes as usize;
-            at = Span { method, start: at.end, end: at.end + own };
+            at = Span {
+                method,
+                start: at.end,
+                end: at.end + own,
+            };
         }
         at
     }

@@ -2,7 +2,7 @@
 
 // A method with its first node and the node past its last one.
 #[derive(Clone, Copy)]
-pub struct Span {
+pub(crate) struct Span {
     pub method: usize,
     pub start: usize,
     pub end: usize,

@@ -7,11 +7,11 @@ ghost use Rattle.recipe.specs.Bytes.{bodyIn, contentsIn};
 ghost use mathlib.Core.Bool.{true};
 ghost use Rattle.recipe.specs.Format.{Legal};
 ghost use Rattle.recipe.specs.Offence.{firstOffence, ends, countTests, placeTests, takeTests};
-use crate::Body;
-use crate::Contents;
 use crate::Draft;
 use crate::Layout;
 use crate::Refusal;
+use crate::contents::Body;
+use crate::contents::Contents;
 use crate::records::word;
 
 impl Body {
@@ -21,7 +21,10 @@ impl Body {
         ensures { λ r. ⌜ r ≡ bodyIn (now (file .entry)) entry ⌝ }
     {
         let at = 4 * entry;
-        Body { place: word(file, at), count: word(file, at + 2) }
+        Body {
+            place: word(file, at),
+            count: word(file, at + 2),
+        }
     }
 
     // Where the body ends, if its records are so wide.
@@ -38,7 +41,12 @@ impl Contents {
         requires { ⌜ 16 ≤ length (now file) ⌝ }
         ensures { λ r. ⌜ r ≡ contentsIn (now (file .entry)) ⌝ }
     {
-        Contents { methods: Body::read(file, 0), nodes: Body::read(file, 1), edges: Body::read(file, 2), rows: Body::read(file, 3) }
+        Contents {
+            methods: Body::read(file, 0),
+            nodes: Body::read(file, 1),
+            edges: Body::read(file, 2),
+            rows: Body::read(file, 3),
+        }
     }
 
     // Whether each count lies within its limits.
@@ -95,6 +103,8 @@ pub fn take<'a>(file: &'a [u8], draft: &mut Draft<'a>) -> Result<(), Refusal>
     let contents = Contents::read(file);
     contents.check_counts()?;
     contents.check_places(file.len())?;
-    *draft = Draft { layout: Layout { file, contents } };
+    *draft = Draft {
+        layout: Layout { file, contents },
+    };
     Ok(())
 }

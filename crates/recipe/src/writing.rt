@@ -44,10 +44,22 @@ fn contents_bytes(methods: u32, nodes: u32, edges: u32, rows: u32) -> [u8; 16]
     let edges_at = nodes_at + 8 * nodes;
     let rows_at = edges_at + 4 * edges;
     [
-        0, 16, high(methods), low(methods),
-        high(nodes_at), low(nodes_at), high(nodes), low(nodes),
-        high(edges_at), low(edges_at), high(edges), low(edges),
-        high(rows_at), low(rows_at), high(rows), low(rows),
+        0,
+        16,
+        high(methods),
+        low(methods),
+        high(nodes_at),
+        low(nodes_at),
+        high(nodes),
+        low(nodes),
+        high(edges_at),
+        low(edges_at),
+        high(edges),
+        low(edges),
+        high(rows_at),
+        low(rows_at),
+        high(rows),
+        low(rows),
     ]
 }
 
@@ -99,13 +111,21 @@ fn first_places(edges: &[Edge]) -> &[Edge]
     ensures value { λ r. ⌜ now r ≡ take 4096 (now (edges .entry)) ⌝ }
     ensures bound { λ r. ⌜ length (now r) ≤ 4096 ⌝ }
 {
-    if edges.len() <= 4096 { edges } else { &edges[0..4096] }
+    if edges.len() <= 4096 {
+        edges
+    } else {
+        &edges[0..4096]
+    }
 }
 
 // Writes the recipe's file with the edges of the list that count, the first 4,096 places of it being read; answers its length.
 pub fn write(recipe: &Recipe, edges: &[Edge], out: &mut [u8]) -> Result<usize, Refusal>
     ensures answer { λ r. ⌜ r ≡ writeAnswer (fileWith (program (now (recipe .entry))) (now (edges .entry))) (now (out .entry)) ⌝ }
     ensures output { λ _. ⌜ now (out .exit) ≡ writeOutput (fileWith (program (now (recipe .entry))) (now (edges .entry))) (now (out .entry)) ⌝ }
+    ensures legal { λ _. ⌜ Legal (fileWith (program (now (recipe .entry))) (now (edges .entry))) ⌝ }
+    ensures program { λ _. ⌜ programOf (fileWith (program (now (recipe .entry))) (now (edges .entry))) ≡ program (now (recipe .entry)) ⌝ }
+    ensures edges { λ _. ⌜ edgesOf (fileWith (program (now (recipe .entry))) (now (edges .entry))) ≡ listedEdges (program (now (recipe .entry))) (now (edges .entry)) ⌝ }
+    ensures same { λ _. ⌜ (now (edges .entry) ≡ ownEdges (now (recipe .entry)) → fileWith (program (now (recipe .entry))) (now (edges .entry)) ≡ fileOf (now (recipe .entry))) ⌝ }
 {
     let edges = first_places(edges);
     let many = recipe.count(edges);
@@ -115,9 +135,15 @@ pub fn write(recipe: &Recipe, edges: &[Edge], out: &mut [u8]) -> Result<usize, R
     let rows_to = edges_at + 4 * many;
     let needed = rows_to + 32 * layout.contents.rows.count as usize;
     if out.len() < needed {
-        return Err(Refusal::ShortOutput { needed: needed as u32 });
+        return Err(Refusal::ShortOutput {
+            needed: needed as u32,
+        });
     }
-    put(out, 0, &contents_bytes(recipe.methods(), recipe.nodes(), many as u32, recipe.rows()));
+    put(
+        out,
+        0,
+        &contents_bytes(recipe.methods(), recipe.nodes(), many as u32, recipe.rows()),
+    );
     put(out, 16, &layout.file[16..edges_at]);
     recipe.put_edges(edges, out, edges_at);
     put(out, rows_to, &layout.file[rows_at..layout.file.len()]);

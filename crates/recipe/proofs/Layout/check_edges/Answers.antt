@@ -21,8 +21,9 @@ returns-then-e-nodes c =
     let lt : i < countIn bs 2 = omega arith in
     let r = edge-record bs i (c .loop-i .last) (c .edge-e .result) (c .edge-e .ensures) (c .loop-i .inv .1) in
     sym (each-first (edgeTest bs) BadEdge (countIn bs 2) i lt (c .loop-i .inv .3) (r ∙ elim (c .then-e-nodes .came) [
-      then-e-nodes·by·then-e-nodes w ↦ and-left _ _ (far-edge bs (c .edge-e .result) (let h = w .if-e-nodes .taken in omega arith))
-    | then-e-nodes·by·else-e-nodes·then-not-rises-after w ↦ and-right _ _ (sym (w .if-not-rises-after .ensures tt)) ]))
+      | then-e-nodes·by·then-e-nodes w ↦ and-left _ _ (far-edge bs (c .edge-e .result) (let h = w .if-e-nodes .taken in omega arith))
+      | then-e-nodes·by·else-e-nodes·then-not-rises-after w ↦ and-right _ _ (sym (w .if-not-rises-after .ensures tt))
+    ]))
 
 pub returns-then-not-edge-fits : need.returns-then-not-edge-fits
 returns-then-not-edge-fits c =
@@ -36,8 +37,7 @@ pub loop-i-again : need.loop-i-again
 loop-i-again c =
     let bs = c .args .self .now .file .now in
     let i = c .loop-i .i in
-    let r = edge-record bs i (c .loop-i .last) (c .edge-e .result) (c .edge-e .ensures) (c .loop-i .inv .1) in
-    (
+    let r = edge-record bs i (c .loop-i .last) (c .edge-e .result) (c .edge-e .ensures) (c .loop-i .inv .1) in (
       c .seek-span .ensures .spans,
       ap Some (c .edge-e .ensures) ∙ ap (edgeBefore bs) (sym (add-one i)),
       (λ e h. let f = rises-from (c .edge-e .result) e h in omega arith),

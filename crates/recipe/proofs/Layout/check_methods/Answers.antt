@@ -31,8 +31,7 @@ loop-k-again c =
     let k = c .loop-k .k in
     let lt : k < countIn bs 0 = omega arith in
     let own = ap (λ m. m .nodes) (c .method-own .ensures) in
-    let e = method-test bs k (c .loop-k .sum) (c .method-own .result .nodes) lt (c .loop-k .inv .0) own in
-    (
+    let e = method-test bs k (c .loop-k .sum) (c .method-own .result .nodes) lt (c .loop-k .inv .0) own in (
       (let h = sum-more bs k lt in let i = c .loop-k .inv .0 in cc),
       omega arith,
       below-more _ _ (c .loop-k .inv .2) (e ∙ grind (arith, tells)),

@@ -16,5 +16,6 @@ returns-else-row-rows c =
     let r = c .args .self .now in
     let n = c .rows .ensures in
     elim (c .else-row-rows .either) [
-      inl h ↦ sym (cell-past-marks r (c .args .row) (c .args .mark) (omega (arith, h .0)) (h .1))
-    | inr h ↦ sym (cell-past-rows r (c .args .row) (c .args .mark) (omega (arith, h))) ]
+      | inl h ↦ sym (cell-past-marks r (c .args .row) (c .args .mark) (omega (arith, h .0)) (h .1))
+      | inr h ↦ sym (cell-past-rows r (c .args .row) (c .args .mark) (omega (arith, h)))
+    ]

@@ -17,14 +17,15 @@ loop-e-again c =
     let i = c .loop-e .e-index in
     let was = c .loop-e .inv .0 in
     elim (c .if-counts .came) [
-      then-counts w ↦
-        let s = ap length (scan-yes p (c .loop-e .last) es i (c .loop-e-test .taken) (sym (w .if-counts .ensures tt))) in
-        let l = ap (λ o. length (countedAfter p o (drop (i + 1) es))) (w .last-is) in
-        (omega arith, omega arith)
-    | else-counts w ↦
-        let s = ap length (scan-no p (c .loop-e .last) es i (c .loop-e-test .taken) (sym (w .if-counts .ensures tt))) in
-        let l = ap (λ o. length (countedAfter p o (drop (i + 1) es))) (w .last-is) in
-        (omega arith, omega arith) ]
+      | then-counts w ↦
+          let s = ap length (scan-yes p (c .loop-e .last) es i (c .loop-e-test .taken) (sym (w .if-counts .ensures tt))) in
+          let l = ap (λ o. length (countedAfter p o (drop (i + 1) es))) (w .last-is) in
+          (omega arith, omega arith)
+      | else-counts w ↦
+          let s = ap length (scan-no p (c .loop-e .last) es i (c .loop-e-test .taken) (sym (w .if-counts .ensures tt))) in
+          let l = ap (λ o. length (countedAfter p o (drop (i + 1) es))) (w .last-is) in
+          (omega arith, omega arith)
+    ]
 
 pub returns : need.returns
 returns c =

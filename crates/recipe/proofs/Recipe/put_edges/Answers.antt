@@ -40,15 +40,16 @@ loop-e-again c =
     let i = c .loop-e .e-index in
     let place = c .loop-e .place in
     elim (c .if-counts .came) [
-      then-counts w ↦
-        let yes = sym (w .if-counts .ensures tt) in
-        let s = ap length (scan-yes p (c .loop-e .last) es i (c .loop-e-test .taken) yes) in
-        let r = c .loop-e .inv .room in
-        sofar-at p es at xs (place + 4) (c .if-counts .place) (w .put .last .out) (c .if-counts .out) (Some (getD es i noEdge)) (c .if-counts .last) (i + 1) (w .place-is) (w .out-is) (w .last-is)
-        (sofar-yes p es at xs place (c .loop-e .out) (c .loop-e .last) i (w .edge-bytes .result) (w .put .last .out) (c .loop-e .inv) (c .loop-e-test .taken) yes (w .edge-bytes .ensures) (omega arith) (w .put .ensures))
-    | else-counts w ↦
-        sofar-at p es at xs place (c .if-counts .place) (c .loop-e .out) (c .if-counts .out) (c .loop-e .last) (c .if-counts .last) (i + 1) (w .place-is) (w .out-is) (w .last-is)
-        (sofar-no p es at xs place (c .loop-e .out) (c .loop-e .last) i (c .loop-e .inv) (c .loop-e-test .taken) (sym (w .if-counts .ensures tt))) ]
+      | then-counts w ↦
+          let yes = sym (w .if-counts .ensures tt) in
+          let s = ap length (scan-yes p (c .loop-e .last) es i (c .loop-e-test .taken) yes) in
+          let r = c .loop-e .inv .room in
+          sofar-at p es at xs (place + 4) (c .if-counts .place) (w .put .last .out) (c .if-counts .out) (Some (getD es i noEdge)) (c .if-counts .last) (i + 1) (w .place-is) (w .out-is) (w .last-is)
+          (sofar-yes p es at xs place (c .loop-e .out) (c .loop-e .last) i (w .edge-bytes .result) (w .put .last .out) (c .loop-e .inv) (c .loop-e-test .taken) yes (w .edge-bytes .ensures) (omega arith) (w .put .ensures))
+      | else-counts w ↦
+          sofar-at p es at xs place (c .if-counts .place) (c .loop-e .out) (c .if-counts .out) (c .loop-e .last) (c .if-counts .last) (i + 1) (w .place-is) (w .out-is) (w .last-is)
+          (sofar-no p es at xs place (c .loop-e .out) (c .loop-e .last) i (c .loop-e .inv) (c .loop-e-test .taken) (sym (w .if-counts .ensures tt)))
+    ]
 
 pub returns : need.returns
 returns c =

@@ -20,7 +20,7 @@ use Rattle.recipe.proofs.Verdicts.{legal-taken}
 use Rattle.recipe.proofs.taking.take.Needs as need
 
 pub returns-then-file-lt16 : need.returns-then-file-lt16
-returns-then-file-lt16 c = 
+returns-then-file-lt16 c =
     let bs = c .args .file .now in
     let e : _≡_ {A = Option Refusal} (Some (Misplaced 4)) (firstOffence (takeTests bs)) = sym (offence-here _ _ _ (grind (arith, tells))) in
     record { answer = e; filled = search needs; legal = legal-taken {T = Unit {0}} (c .args .file .now) (Err (Misplaced 4)) e }
