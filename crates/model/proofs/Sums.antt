@@ -53,3 +53,9 @@ home-within (m ∷ ms) n lt = split (cases-lt n (m .nodes)) (λ le. home-within 
         → (home (m ∷ ms) n < length (m ∷ ms)) × (offset (m ∷ ms) (home (m ∷ ms) n) ≤ n) × (n < offset (m ∷ ms) (suc (home (m ∷ ms) n)))
     split (inl lt) rest = rw (home-first m ms n lt) (omega arith)
     split (inr le) rest = let h = rest le in rw (home-past m ms n le) (omega arith)
+
+-- past the sum of all there is no method
+pub home-far : (ms : List Method) (n : ℕ) → offset ms (length ms) ≤ n → home ms n ≡ length ms
+unfolding offset home
+home-far [] n far = refl
+home-far (m ∷ ms) n far = home-past m ms n (omega arith) ∙ ap suc (home-far ms (n - m .nodes) (omega arith))

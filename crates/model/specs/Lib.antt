@@ -1,2 +1,5 @@
-pub mod Program
+pub mod Access
 pub mod Lawful
+pub mod Program
+pub mod Watches
+pub mod Worked

@@ -1,5 +1,9 @@
 // The words of the subject: what a recipe is made of, shared by the code and by the mathematics above it.
 
+mod laws;
+
+pub use laws::worked_cases;
+
 // A method: its rights, right i counting 2^i, and how many nodes it has.
 #[derive(Clone, Copy, PartialEq, Eq, Debug)]
 pub struct Method {

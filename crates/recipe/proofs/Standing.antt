@@ -18,13 +18,14 @@ use Rattle.model.specs.declared.Edge.{Edge}
 use Rattle.model.specs.declared.Method.{Method}
 use Rattle.model.specs.Lawful.{Lawful}
 use Rattle.model.proofs.Edges.{edge-rules}
-use Rattle.model.specs.Program.{noMethod, noNode, noEdge, noRow, nodeAt, isEdge, risesAfter, counts}
+use Rattle.model.specs.Program.{noMethod, noNode, noEdge, noRow, methodAt, nodeAt, isEdge, risesAfter, counts}
 use Rattle.recipe.specs.declared.Recipe.{Recipe}
 use Rattle.recipe.specs.Bytes.{countIn, methodIn, nodeIn, edgeIn, cellIn, programOf, edgesOf}
 use Rattle.recipe.specs.Format.{bytesOf}
 use Rattle.recipe.specs.Recipes.{fileOf, program, ownEdges, cellOf}
 use Rattle.recipe.specs.Spans.{Summed}
 use Rattle.recipe.proofs.Places.{laid}
+use Rattle.recipe.proofs.ReadBack.{rights-small}
 use Rattle.recipe.proofs.Scans.{methods-length, nodes-length, edges-length, rows-length, method-at, edge-at, row-at, summed}
 use Rattle.recipe.proofs.WriteBack.{Checked, node-some, lawful, written}
 
@@ -93,3 +94,7 @@ edge-small r last e c =
     let rules = edge-rules (program r) e (and-parts (isEdge (program r) e) (risesAfter last e) c .0) in
     let few = stands r .few-nodes in
     (omega arith, omega arith)
+
+-- the rights of a method are a set of rights; past the last method there are none
+pub rights-below : (r : Recipe) (k : ℕ) → methodAt (program r) k .rights < 65536
+rights-below r k = rights-small (program r) (ownEdges r) (stands r) k

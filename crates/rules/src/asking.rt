@@ -1,0 +1,99 @@
+// What both rules ask of the recipe.
+ghost use mathlib.Core.Path.{_≡_};
+ghost use Prim.Native.Nat.{ℕ, _<_};
+ghost use Rattle.model.specs.Access.{isEntryOf, isReturnOf, setFirst, setPass};
+ghost use Rattle.model.specs.Program.{methodAt, nodeAt, isReturn, rightsOf};
+ghost use Rattle.recipe.specs.Recipes.{program};
+use recipe::Kind;
+use recipe::Node;
+use recipe::Recipe;
+
+// The node, or the one that stands for none.
+pub(crate) fn node_at(recipe: &Recipe, n: u32) -> Node
+    ensures { λ r. ⌜ r ≡ nodeAt (program (now (recipe .entry))) n ⌝ }
+{
+    match recipe.node(n) {
+        Some(node) => node,
+        None => Node {
+            kind: Kind::Return,
+            mark: 0,
+            entry: false,
+        },
+    }
+}
+
+// The rights of a method; none if there is no such method.
+pub(crate) fn rights(recipe: &Recipe, method: u32) -> u32
+    ensures answer { λ r. ⌜ r ≡ methodAt (program (now (recipe .entry))) method .rights ⌝ }
+    ensures below { λ r. ⌜ r < 65536 ⌝ }
+{
+    match recipe.method(method) {
+        Some(m) => m.rights,
+        None => 0,
+    }
+}
+
+// Whether n is an entry of a method.
+pub(crate) fn is_entry_of(recipe: &Recipe, method: u32, n: u32) -> bool
+    ensures { λ r. ⌜ r ≡ isEntryOf (program (now (recipe .entry))) method n ⌝ }
+{
+    let entry = node_at(recipe, n).entry;
+    match recipe.method_of(n) {
+        Some(home) => entry && home == method,
+        None => false,
+    }
+}
+
+// Whether n is a return of a method.
+pub(crate) fn is_return_of(recipe: &Recipe, method: u32, n: u32) -> bool
+    ensures { λ r. ⌜ r ≡ isReturnOf (program (now (recipe .entry))) method n ⌝ }
+{
+    let returns = is_return(node_at(recipe, n).kind);
+    match recipe.method_of(n) {
+        Some(home) => returns && home == method,
+        None => false,
+    }
+}
+
+// Whether a node of this kind ends its call.
+pub(crate) fn is_return(kind: Kind) -> bool
+    ensures { λ r. ⌜ r ≡ isReturn kind ⌝ }
+{
+    match kind {
+        Kind::Return => true,
+        Kind::Nop | Kind::Call { .. } | Kind::Check { .. } => false,
+    }
+}
+
+// Main's rights at an entry of main.
+pub(crate) fn set_first(recipe: &Recipe, entry: u32) -> u32
+    ensures answer { λ r. ⌜ r ≡ setFirst (program (now (recipe .entry))) entry ⌝ }
+    ensures below { λ r. ⌜ r < 65536 ⌝ }
+{
+    if is_entry_of(recipe, 0, entry) {
+        rights(recipe, 0)
+    } else {
+        0
+    }
+}
+
+// Whether the rights that a check requires lie within the set.
+pub(crate) fn set_pass(recipe: &Recipe, set: u32, check: u32) -> bool
+    ensures { λ r. ⌜ r ≡ setPass (program (now (recipe .entry))) set check ⌝ }
+{
+    match node_at(recipe, check).kind {
+        Kind::Check { required } => set < 65536 && required & set == required,
+        Kind::Nop | Kind::Call { .. } | Kind::Return => false,
+    }
+}
+
+// The rights of the method of a node.
+pub(crate) fn own_rights(recipe: &Recipe, n: u32) -> u32
+    ensures answer { λ r. ⌜ r ≡ rightsOf (program (now (recipe .entry))) n ⌝ }
+    ensures below { λ r. ⌜ r < 65536 ⌝ }
+{
+    match recipe.method_of(n) {
+        Some(home) => rights(recipe, home),
+        None => 0,
+    }
+}

@@ -1,0 +1,51 @@
+// History-based access control: what a run still may do depends on every method that it has gone through.
+ghost use Rattle.model.specs.Access.{history};
+use crate::AccessRule;
+use crate::asking::is_entry_of;
+use crate::asking::is_return_of;
+use crate::asking::node_at;
+use crate::asking::rights;
+use crate::asking::set_first;
+use crate::asking::set_pass;
+use recipe::Kind;
+use recipe::Recipe;
+
+// The history rule.
+#[derive(Clone, Copy)]
+pub struct History;
+
+pub impl AccessRule for History as HistoryRule {
+    ghost meaning = { λ _ p. history p };
+
+    fn values(&self, _recipe: &Recipe) -> u32 {
+        65536
+    }
+
+    fn first(&self, recipe: &Recipe, entry: u32) -> u32 {
+        set_first(recipe, entry)
+    }
+
+    fn enter(&self, recipe: &Recipe, value: u32, call: u32, entry: u32) -> u32 {
+        let Kind::Call { callee, grant, .. } = node_at(recipe, call).kind else {
+            return 0;
+        };
+        if value >= 65536 || !is_entry_of(recipe, callee, entry) {
+            return 0;
+        }
+        (value | grant) & rights(recipe, callee)
+    }
+
+    fn pass(&self, recipe: &Recipe, value: u32, check: u32) -> bool {
+        set_pass(recipe, value, check)
+    }
+
+    fn back(&self, recipe: &Recipe, value: u32, call: u32, returned: u32, at: u32) -> u32 {
+        let Kind::Call { callee, accept, .. } = node_at(recipe, call).kind else {
+            return 0;
+        };
+        if value >= 65536 || returned >= 65536 || !is_return_of(recipe, callee, at) {
+            return 0;
+        }
+        value & (returned | accept)
+    }
+}
