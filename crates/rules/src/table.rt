@@ -6,11 +6,11 @@ use recipe::Recipe;
 
 // The watch of a recipe's own rows.
 #[derive(Clone, Copy)]
-pub struct TableWatch<'a> {
-    pub recipe: &'a Recipe<'a>,
+pub struct TableWatch<'r, 'f> {
+    pub recipe: &'r Recipe<'f>,
 }
 
-pub impl Watch for TableWatch<'_> as TableWatching {
+pub impl Watch for TableWatch<'_, '_> as TableWatching {
     ghost watching = { λ w. tableWatch (program (w .recipe .now) .rows) };
 
     fn states(&self) -> u32 {
