@@ -11,11 +11,11 @@ use rules::TableWatching;
 use rules::WallWatch;
 use rules::WallWatching;
 use std::test::*;
-use tests_recipe::samples::sample;
+use tests_recipe::samples;
 
 #[test]
 fn four_combinations(rt: LibcRuntime) -> Result<(), Fail> {
-    let file = sample().file(rt.alloc())?;
+    let file = samples::parts().file(rt.alloc())?;
     let mut recipe = Recipe::built_in();
     check(read(&file, &mut recipe).is_ok())?;
     let table = TableWatch { recipe: &recipe };
