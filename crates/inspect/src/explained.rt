@@ -4,9 +4,9 @@ use std::fmt;
 
 // Shown as one line that begins with the refusal's number and detail, so that a script can read it.
 #[derive(Clone, Copy)]
-pub struct Explained(pub Refusal);
+pub(crate) struct Explained(pub Refusal);
 
-pub impl fmt::Display for Explained as ExplainedDisplay {
+pub(crate) impl fmt::Display for Explained as ExplainedDisplay {
     fn fmt<W: fmt::Write>(&self, f: &mut fmt::Formatter<W>) -> fmt::Result {
         let number = self.0.number();
         let detail = self.0.detail();

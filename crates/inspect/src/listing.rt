@@ -79,7 +79,7 @@ fn list_nodes<'a>(
 }
 
 // Prints each method and its nodes. The edges are all of the recipe's, in rising order.
-pub fn list_methods(rt: &impl Print, recipe: &Recipe, edges: &[Edge]) -> io::Result<()> {
+pub(crate) fn list_methods(rt: &impl Print, recipe: &Recipe, edges: &[Edge]) -> io::Result<()> {
     let mut first = 0u32;
     let mut rest = edges;
     for number in 0..recipe.methods() {

@@ -3,9 +3,9 @@ use std::fmt;
 
 // A set of rights, right i counting 2^i: shown as the numbers of its rights.
 #[derive(Clone, Copy)]
-pub struct Rights(pub u32);
+pub(crate) struct Rights(pub u32);
 
-pub impl fmt::Display for Rights as RightsDisplay {
+pub(crate) impl fmt::Display for Rights as RightsDisplay {
     fn fmt<W: fmt::Write>(&self, f: &mut fmt::Formatter<W>) -> fmt::Result {
         if self.0 == 0 {
             return f.write_str("none");
@@ -24,13 +24,13 @@ pub impl fmt::Display for Rights as RightsDisplay {
 
 // Things of one kind with consecutive numbers, the last one included: "node 3" or "nodes 0 to 2".
 #[derive(Clone, Copy)]
-pub struct Run {
+pub(crate) struct Run {
     pub what: &'static str,
     pub first: u32,
     pub last: u32,
 }
 
-pub impl fmt::Display for Run as RunDisplay {
+pub(crate) impl fmt::Display for Run as RunDisplay {
     fn fmt<W: fmt::Write>(&self, f: &mut fmt::Formatter<W>) -> fmt::Result {
         let what = self.what;
         let first = self.first;

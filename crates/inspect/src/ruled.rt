@@ -18,7 +18,7 @@ use std::error::AnyError;
 const EVERY_RIGHT: u32 = 65535;
 
 // The first entry of each method, in the order of the methods: nodes come in that order, and each method has an entry.
-pub fn first_entries(heap: Global, recipe: &Recipe) -> Result<Vec<u32>, AllocError> {
+pub(crate) fn first_entries(heap: Global, recipe: &Recipe) -> Result<Vec<u32>, AllocError> {
     let mut entries = Vec::new(heap);
     for n in 0..recipe.nodes() {
         let entry = match recipe.node(n) {
@@ -63,7 +63,7 @@ fn print_check(rt: &LibcRuntime, recipe: &Recipe, check: u32) -> Result<(), AnyE
 }
 
 // A line for each call and each check.
-pub fn list_answers(rt: &LibcRuntime, recipe: &Recipe, entries: &[u32]) -> Result<(), AnyError> {
+pub(crate) fn list_answers(rt: &LibcRuntime, recipe: &Recipe, entries: &[u32]) -> Result<(), AnyError> {
     for n in 0..recipe.nodes() {
         let Some(node) = recipe.node(n) else {
             continue;
@@ -92,7 +92,7 @@ fn uses(recipe: &Recipe, mark: u32) -> bool {
 }
 
 // A line for each mark in use: where it leads from each state of the table watch.
-pub fn list_watch(rt: &LibcRuntime, recipe: &Recipe) -> Result<(), AnyError> {
+pub(crate) fn list_watch(rt: &LibcRuntime, recipe: &Recipe) -> Result<(), AnyError> {
     let watch = TableWatch { recipe };
     let states = watch.states();
     let start = watch.start();

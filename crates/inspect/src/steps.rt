@@ -55,13 +55,13 @@ impl fmt::Display for Targets<'_> as TargetsDisplay {
 
 // A node with its number and the edges that leave it.
 #[derive(Drop)]
-pub struct Step<'a> {
+pub(crate) struct Step<'a> {
     pub number: u32,
     pub node: Node,
     pub edges: &'a [Edge],
 }
 
-pub impl fmt::Display for Step<'_> as StepDisplay {
+pub(crate) impl fmt::Display for Step<'_> as StepDisplay {
     fn fmt<W: fmt::Write>(&self, f: &mut fmt::Formatter<W>) -> fmt::Result {
         let number = self.number;
         let entry = if self.node.entry { ", entry" } else { "" };

@@ -16,13 +16,13 @@ use std::fmt;
 
 // What came of writing the file again.
 #[derive(Clone, Copy)]
-pub enum Written {
+pub(crate) enum Written {
     Same { bytes: usize },
     Other { bytes: usize },
     Refused(Refusal),
 }
 
-pub impl fmt::Display for Written as WrittenDisplay {
+pub(crate) impl fmt::Display for Written as WrittenDisplay {
     fn fmt<W: fmt::Write>(&self, f: &mut fmt::Formatter<W>) -> fmt::Result {
         match self {
             Written::Same { bytes } => write!(f, "{bytes} bytes, the same file"),
@@ -55,7 +55,7 @@ fn write_and_read<'a>(
 
 // Writes the recipe's file with these edges and compares it with a file. A longer one than that is refused, since the
 // output is no longer. From the recipe's own edges comes its own file, so the answer is then that it is the same.
-pub fn write_back(
+pub(crate) fn write_back(
     heap: Global,
     recipe: &Recipe,
     edges: &[Edge],
