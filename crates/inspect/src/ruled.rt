@@ -63,7 +63,11 @@ fn print_check(rt: &LibcRuntime, recipe: &Recipe, check: u32) -> Result<(), AnyE
 }
 
 // A line for each call and each check.
-pub(crate) fn list_answers(rt: &LibcRuntime, recipe: &Recipe, entries: &[u32]) -> Result<(), AnyError> {
+pub(crate) fn list_answers(
+    rt: &LibcRuntime,
+    recipe: &Recipe,
+    entries: &[u32],
+) -> Result<(), AnyError> {
     for n in 0..recipe.nodes() {
         let Some(node) = recipe.node(n) else {
             continue;

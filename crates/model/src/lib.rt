@@ -2,6 +2,9 @@
 
 mod laws;
 
+pub use laws::history_agrees;
+pub use laws::runs_follow_from_traces;
+pub use laws::stack_agrees;
 pub use laws::worked_cases;
 
 // A method: its rights, right i counting 2^i, and how many nodes it has.
@@ -40,4 +43,11 @@ pub struct Node {
 pub struct Edge {
     pub from: u32,
     pub to: u32,
+}
+
+// A frame of a run: a node, and the value that the rule of access has there.
+#[derive(Clone, Copy, PartialEq, Eq, Debug)]
+pub struct Frame {
+    pub node: u32,
+    pub value: u32,
 }

@@ -73,8 +73,16 @@ fn put(out: &mut [u8], at: usize, bytes: &[u8])
 }
 
 impl Recipe<'_> {
-    // How many edges of a list count.
+    // How many edges of a list count, the first 4,096 places of it being read.
     pub fn count(&self, edges: &[Edge]) -> usize
+        ensures value { λ r. ⌜ r ≡ length (listedEdges (program (now (self .entry))) (now (edges .entry))) ⌝ }
+        ensures bound { λ r. ⌜ r ≤ 4096 ⌝ }
+    {
+        self.count_all(first_places(edges))
+    }
+
+    // How many of these edges count.
+    fn count_all(&self, edges: &[Edge]) -> usize
         ensures value { λ r. ⌜ r ≡ length (counted (program (now (self .entry))) (now (edges .entry))) ⌝ }
         ensures bound { λ r. ⌜ r ≤ length (now (edges .entry)) ⌝ }
     {
@@ -127,7 +135,6 @@ pub fn write(recipe: &Recipe, edges: &[Edge], out: &mut [u8]) -> Result<usize, R
     ensures edges { λ _. ⌜ edgesOf (fileWith (program (now (recipe .entry))) (now (edges .entry))) ≡ listedEdges (program (now (recipe .entry))) (now (edges .entry)) ⌝ }
     ensures same { λ _. ⌜ (now (edges .entry) ≡ ownEdges (now (recipe .entry)) → fileWith (program (now (recipe .entry))) (now (edges .entry)) ≡ fileOf (now (recipe .entry))) ⌝ }
 {
-    let edges = first_places(edges);
     let many = recipe.count(edges);
     let layout = &recipe.layout;
     let edges_at = layout.contents.edges.place as usize;
@@ -145,7 +152,7 @@ pub fn write(recipe: &Recipe, edges: &[Edge], out: &mut [u8]) -> Result<usize, R
         &contents_bytes(recipe.methods(), recipe.nodes(), many as u32, recipe.rows()),
     );
     put(out, 16, &layout.file[16..edges_at]);
-    recipe.put_edges(edges, out, edges_at);
+    recipe.put_edges(first_places(edges), out, edges_at);
     put(out, rows_to, &layout.file[rows_at..layout.file.len()]);
     Ok(needed)
 }

@@ -1,10 +1,10 @@
 // What check says of the records: the file of the samples, with some of its bytes changed.
-use crate::building::changed;
-use crate::samples;
-use crate::samples::*;
 use crate::telling::checked;
 use crate::telling::read;
 use crate::telling::taken;
+use samples::building::changed;
+use samples::recipe_a;
+use samples::recipe_a::*;
 use std::alloc::Global;
 use std::test::*;
 
@@ -186,7 +186,7 @@ static ORDER: [Case; 4] = [
 
 fn check_cases(heap: Global, cases: &[Case]) -> Result<(), Fail> {
     for (changes, answer) in cases {
-        let file = changed(heap, samples::FILE, changes)?;
+        let file = changed(heap, recipe_a::file(), changes)?;
         taken(&file)?;
         check_eq(checked(&file), *answer).note(format_args!("{changes:?}"))?;
         check_eq(read(&file), *answer)?;

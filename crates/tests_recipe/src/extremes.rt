@@ -1,6 +1,4 @@
 // The smallest and the largest file, and files with no edges or no rows: each is read, and written back byte for byte.
-use crate::building::Parts;
-use crate::samples;
 use crate::telling::told;
 use crate::whole::LONGEST;
 use crate::whole::written_back;
@@ -13,6 +11,8 @@ use model::MethodDebug;
 use model::Node;
 use model::NodeDebug;
 use recipe::Recipe;
+use samples::building::Parts;
+use samples::recipe_a;
 use std::alloc::Global;
 use std::test::*;
 
@@ -85,16 +85,16 @@ fn check_back(heap: Global, file: &[u8]) -> Result<(), Fail> {
 #[test]
 fn legal_files_are_written_back(rt: LibcRuntime) -> Result<(), Fail> {
     let heap = rt.alloc();
-    check_back(heap, samples::FILE)?;
+    check_back(heap, recipe_a::file())?;
     check_back(heap, SMALLEST)?;
     let no_edges = Parts {
         edges: &[],
-        ..samples::parts()
+        ..recipe_a::parts()
     };
     check_back(heap, &no_edges.file(heap)?)?;
     let no_rows = Parts {
         rows: &[],
-        ..samples::parts()
+        ..recipe_a::parts()
     };
     check_back(heap, &no_rows.file(heap)?)
 }
@@ -125,7 +125,7 @@ fn the_largest_file_is_written_back(rt: LibcRuntime) -> Result<(), Fail> {
 #[test]
 fn samples_and_first_values(rt: LibcRuntime) -> Result<(), Fail> {
     let heap = rt.alloc();
-    check_eq(samples::parts().file(heap)?.as_slice(), samples::FILE)?;
+    check_eq(recipe_a::parts().file(heap)?.as_slice(), recipe_a::file())?;
     check_eq(
         written_back(heap, &Recipe::built_in())?.as_slice(),
         SMALLEST,

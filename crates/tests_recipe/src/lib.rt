@@ -1,7 +1,7 @@
 // Tests of recipe files: what is taken, checked, read and written, on files that are built here.
+// All of it is for the tests alone, so that no function of it is proved twice.
 #[cfg(test)]
 mod answers;
-pub mod building;
 #[cfg(test)]
 mod checking;
 #[cfg(test)]
@@ -10,10 +10,11 @@ mod extremes;
 mod keeping;
 #[cfg(test)]
 mod refusals;
-pub mod samples;
 #[cfg(test)]
 mod taking;
-pub mod telling;
-pub mod whole;
+#[cfg(test)]
+mod telling;
+#[cfg(test)]
+mod whole;
 #[cfg(test)]
 mod writing;

@@ -1,7 +1,7 @@
 // What take says of a table of contents and of a file's length.
-use crate::building::blank;
 use crate::telling::read;
 use crate::telling::taken;
+use samples::building::blank;
 use std::alloc::Global;
 use std::test::*;
 

@@ -1,6 +1,4 @@
 // What write writes, and what it leaves.
-use crate::building::Parts;
-use crate::samples;
 use crate::telling::told;
 use crate::whole::own_edges;
 use crate::whole::written;
@@ -8,30 +6,40 @@ use model::Edge;
 use model::EdgeDebug;
 use model::EdgePartialEq;
 use recipe::Recipe;
+use samples::building::Parts;
+use samples::recipe_a;
 use std::alloc::Global;
 use std::test::*;
 
-// An output of sevens gets the file at its start, if that fits, and is else left as it was.
-fn check_room(heap: Global, recipe: &Recipe, room: usize) -> Result<(), Fail> {
+// An output of sevens, after the file was written into it.
+fn check_room(
+    heap: Global,
+    recipe: &Recipe,
+    room: usize,
+    answer: Result<usize, (u32, u32)>,
+    start: &[u8],
+) -> Result<(), Fail> {
     let mut out = vec![in heap; 7; room]?;
-    let answer = told(recipe::write(recipe, &samples::EDGES, &mut out));
-    if room < 164 {
-        check_eq(answer, Err((18, 164)))?;
-        check_eq(out, vec![in heap; 7; room]?)
-    } else {
-        check_eq(answer, Ok(164))?;
-        let mut expected = samples::FILE.to_vec(heap)?;
-        expected.resize(room, 7)?;
-        check_eq(out, expected)
-    }
+    check_eq(
+        told(recipe::write(recipe, recipe_a::parts().edges, &mut out)),
+        answer,
+    )?;
+    let mut expected = start.to_vec(heap)?;
+    expected.resize(room, 7)?;
+    check_eq(out, expected)
 }
 
+// Where there is room the file stands at the start, and else nothing is touched.
 #[test]
 fn the_file_is_written_where_it_fits(rt: LibcRuntime) -> Result<(), Fail> {
+    let heap = rt.alloc();
     let mut a = Recipe::built_in();
-    told(recipe::read(samples::FILE, &mut a))?;
-    for room in [0, 1, 163, 164, 165, 170] {
-        check_room(rt.alloc(), &a, room).note(format_args!("{room} bytes of room"))?;
+    told(recipe::read(recipe_a::file(), &mut a))?;
+    for room in [0, 1, 163] {
+        check_room(heap, &a, room, Err((18, 164)), &[])?;
+    }
+    for room in [164, 165, 170] {
+        check_room(heap, &a, room, Ok(164), recipe_a::file())?;
     }
     Ok(())
 }
@@ -83,7 +91,7 @@ fn check_list(heap: Global, recipe: &Recipe, list: &[Edge], counting: &[Edge]) -
     let file = written(heap, recipe, list)?;
     let parts = Parts {
         edges: counting,
-        ..samples::parts()
+        ..recipe_a::parts()
     };
     check_eq(file.as_slice(), parts.file(heap)?.as_slice())?;
     let mut again = Recipe::built_in();
@@ -95,7 +103,7 @@ fn check_list(heap: Global, recipe: &Recipe, list: &[Edge], counting: &[Edge]) -
 fn only_edges_that_count_are_written(rt: LibcRuntime) -> Result<(), Fail> {
     let heap = rt.alloc();
     let mut a = Recipe::built_in();
-    told(recipe::read(samples::FILE, &mut a))?;
+    told(recipe::read(recipe_a::file(), &mut a))?;
     for (list, counting) in &LISTS {
         let list = edges_of(heap, list)?;
         let counting = edges_of(heap, counting)?;
@@ -104,21 +112,22 @@ fn only_edges_that_count_are_written(rt: LibcRuntime) -> Result<(), Fail> {
     Ok(())
 }
 
+// The file with a list of so many edges that do not count, and then one that does.
+fn check_long(heap: Global, recipe: &Recipe, before: usize, counting: &[Edge]) -> Result<(), Fail> {
+    let mut list = vec![in heap; Edge { from: 0, to: 4 }; before]?;
+    list.push(Edge { from: 0, to: 1 })?;
+    let parts = Parts {
+        edges: counting,
+        ..recipe_a::parts()
+    };
+    check_eq(written(heap, recipe, &list)?, parts.file(heap)?)
+}
+
 // Of a long list the first 4,096 places are read.
 #[test]
-fn a_place_past_the_last_that_is_read_is_not_written(rt: LibcRuntime) -> Result<(), Fail> {
-    let heap = rt.alloc();
+fn no_place_past_the_last_is_read(rt: LibcRuntime) -> Result<(), Fail> {
     let mut a = Recipe::built_in();
-    told(recipe::read(samples::FILE, &mut a))?;
-    let own = [Edge { from: 0, to: 1 }];
-    for (before, counting) in [(4095, &own[0..1]), (4096, &own[0..0])] {
-        let mut list = vec![in heap; Edge { from: 0, to: 4 }; before]?;
-        list.extend_from_slice(&own)?;
-        let parts = Parts {
-            edges: counting,
-            ..samples::parts()
-        };
-        check_eq(written(heap, &a, &list)?, parts.file(heap)?)?;
-    }
-    Ok(())
+    told(recipe::read(recipe_a::file(), &mut a))?;
+    check_long(rt.alloc(), &a, 4095, &[Edge { from: 0, to: 1 }])?;
+    check_long(rt.alloc(), &a, 4096, &[])
 }

@@ -10,12 +10,12 @@ use rules::TableWatch;
 use rules::TableWatching;
 use rules::WallWatch;
 use rules::WallWatching;
+use samples::recipe_a;
 use std::test::*;
-use tests_recipe::samples;
 
 #[test]
 fn four_combinations(rt: LibcRuntime) -> Result<(), Fail> {
-    let file = samples::parts().file(rt.alloc())?;
+    let file = recipe_a::parts().file(rt.alloc())?;
     let mut recipe = Recipe::built_in();
     check(read(&file, &mut recipe).is_ok())?;
     let table = TableWatch { recipe: &recipe };

@@ -1,9 +1,12 @@
 // Tests of the access rules and the watches, at the edges of what may be asked.
+// All of it is for the tests alone, so that no function of it is proved twice.
 #[cfg(test)]
 mod access;
-pub mod both;
+#[cfg(test)]
+mod both;
 #[cfg(test)]
 mod combined;
-pub mod sample;
+#[cfg(test)]
+mod sample;
 #[cfg(test)]
 mod watches;

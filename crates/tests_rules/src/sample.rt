@@ -3,7 +3,7 @@ use model::Edge;
 use model::Kind;
 use model::Method;
 use model::Node;
-use tests_recipe::building::Parts;
+use samples::building::Parts;
 
 static METHODS: [Method; 3] = [
     Method {

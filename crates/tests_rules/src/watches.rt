@@ -7,8 +7,8 @@ use rules::TableWatching;
 use rules::WallWatch;
 use rules::WallWatching;
 use rules::Watch;
+use samples::recipe_a;
 use std::test::*;
-use tests_recipe::samples;
 
 // Steps of the table watch of two rows: state, mark, and where it leads.
 const TABLE: [(u32, u32, u32); 9] = [
@@ -38,7 +38,7 @@ const WALLS: [(u32, u32, u32, u32, u32); 9] = [
 
 #[test]
 fn table_steps(rt: LibcRuntime) -> Result<(), Fail> {
-    let file = samples::parts().file(rt.alloc())?;
+    let file = recipe_a::parts().file(rt.alloc())?;
     let mut recipe = Recipe::built_in();
     check(read(&file, &mut recipe).is_ok())?;
     let watch = TableWatch { recipe: &recipe };

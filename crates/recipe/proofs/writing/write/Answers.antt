@@ -21,7 +21,7 @@ pub returns-then-out-needed : need.returns-then-out-needed
 returns-then-out-needed c =
     let r = c .args .recipe .now in
     let es = c .args .edges .now in
-    let k : c .count-many .result ≡ length (listedEdges (program r) es) = c .count-many .ensures .value ∙ ap (λ l. length (counted (program r) l)) (c .first-places-edges .ensures .value) in
+    let k : c .count-many .result ≡ length (listedEdges (program r) es) = c .count-many .ensures .value in
     let n = file-length r es (c .count-many .result) k in
     let short : leb (length (fileWith (program r) es)) (length (c .args .out .now)) ≡ false = lt-leb _ _ (omega arith) in
     record {
@@ -39,7 +39,6 @@ contents-bytes-requires c κs =
     let m = methods-count r in
     let n = nodes-count r in
     let w = rows-count r in
-    let f = c .first-places-edges .ensures .bound in
     let b = c .count-many .ensures .bound in
     omega arith
 
@@ -47,14 +46,14 @@ pub returns : need.returns
 returns c =
     let r = c .args .recipe .now in
     let es = c .args .edges .now in
-    let k : c .count-many .result ≡ length (listedEdges (program r) es) = c .count-many .ensures .value ∙ ap (λ l. length (counted (program r) l)) (c .first-places-edges .ensures .value) in
+    let k : c .count-many .result ≡ length (listedEdges (program r) es) = c .count-many .ensures .value in
     let n = file-length r es (c .count-many .result) k in
     let room : length (fileWith (program r) es) ≤ length (c .args .out .now) = omega arith in
     let long : leb (length (fileWith (program r) es)) (length (c .args .out .now)) ≡ true = le-leb _ _ room in
     let at = r .layout .contents .edges .place in
     let front = take at (c .put-2 .last .out) in
     let edges = c .put-edges .ensures
-    ∙ ap (λ l. front ++ (joined edgeBytes (counted (program r) l) ++ drop (at + 4 * length (counted (program r) l)) (c .put-2 .last .out))) (c .first-places-edges .ensures .value)
+    ∙ ap (λ l. front ++ (joined edgeBytes (counted (program r) l) ++ drop (at + 4 * length (counted (program r) l)) (c .put-2 .last .out))) (c .first-places .ensures .value)
     ∙ ap (λ m. front ++ (joined edgeBytes (listedEdges (program r) es) ++ drop (at + 4 * m) (c .put-2 .last .out))) (sym k) in
     let all = assembled r es (c .count-many .result) (c .args .out .now) (c .contents-bytes .result) _ (joined edgeBytes (listedEdges (program r) es)) _ (c .put .last .out) (c .put-2 .last .out) (c .put-edges .last .out) (c .put-3 .last .out) k room
     (c .contents-bytes .ensures ∙ (λ i. contentsBytes ((c .methods .ensures) i) ((c .nodes .ensures) i) (c .count-many .result) ((c .rows .ensures) i)))

@@ -3,7 +3,7 @@ use Prim.Native.Nat.{_+_, _≤_}
 use lib.ListN.{length, drop}
 use Rattle.model.specs.Program.{counted, countedAfter}
 use Rattle.recipe.specs.Recipes.{program}
-use Rattle.recipe.proofs.Recipe.count.Given as given
+use Rattle.recipe.proofs.Recipe.count_all.Given as given
 
 abbrev pub Inv-loop-e : given.InvT-loop-e
 Inv-loop-e l =

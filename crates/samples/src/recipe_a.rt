@@ -1,11 +1,14 @@
 // The recipe that most tests are about: a method that calls two others, and two rows of what may follow a mark.
+// Its bytes are handed out by functions, so that a proof of a test does not have to carry each of them.
+ghost use mathlib.Core.Path.{_≡_};
+ghost use lib.ListN.{length};
 use crate::building::Parts;
 use model::Edge;
 use model::Kind;
 use model::Method;
 use model::Node;
 
-pub static METHODS: [Method; 3] = [
+static METHODS: [Method; 3] = [
     Method {
         rights: 3,
         nodes: 3,
@@ -20,7 +23,7 @@ pub static METHODS: [Method; 3] = [
     },
 ];
 
-pub static NODES: [Node; 7] = [
+static NODES: [Node; 7] = [
     Node {
         kind: Kind::Call {
             callee: 1,
@@ -68,24 +71,21 @@ pub static NODES: [Node; 7] = [
     },
 ];
 
-// The method of each node.
-pub static OWNERS: [u32; 7] = [0, 0, 0, 1, 2, 2, 2];
-
-pub static EDGES: [Edge; 4] = [
+static EDGES: [Edge; 4] = [
     Edge { from: 0, to: 1 },
     Edge { from: 1, to: 2 },
     Edge { from: 4, to: 5 },
     Edge { from: 5, to: 6 },
 ];
 
-// Row 0 goes on to row 1 at mark 1, and row 1 ends at mark 2; else both stay.
-pub static ROWS: &[u8; 64] = b"\x00\x01\x00\x00\x00\x00\x00\x00\x00\x00\x00\x00\x00\x00\x00\x00\
+// Row 0 goes on to row 1 at mark 1, and row 1 leads nowhere at mark 2; else both stay.
+static ROWS: &[u8; 64] = b"\x00\x01\x00\x00\x00\x00\x00\x00\x00\x00\x00\x00\x00\x00\x00\x00\
     \x00\x00\x00\x00\x00\x00\x00\x00\x00\x00\x00\x00\x00\x00\x00\x00\
     \x01\x01\xff\x01\x01\x01\x01\x01\x01\x01\x01\x01\x01\x01\x01\x01\
     \x01\x01\x01\x01\x01\x01\x01\x01\x01\x01\x01\x01\x01\x01\x01\x01";
 
 // What the file is made of.
-pub fn parts<'a>() -> Parts<'a> {
+pub fn parts() -> Parts<'static> {
     Parts {
         methods: &METHODS,
         nodes: &NODES,
@@ -95,7 +95,7 @@ pub fn parts<'a>() -> Parts<'a> {
 }
 
 // The file, byte for byte: the table of contents, then a line for each record, and two for a row.
-pub static FILE: &[u8; 164] = b"\x00\x10\x00\x03\x00\x1c\x00\x07\x00\x54\x00\x04\x00\x64\x00\x02\
+static FILE: &[u8; 164] = b"\x00\x10\x00\x03\x00\x1c\x00\x07\x00\x54\x00\x04\x00\x64\x00\x02\
     \x00\x03\x00\x03\
     \x00\x01\x00\x01\
     \x00\x03\x00\x03\
@@ -115,7 +115,20 @@ pub static FILE: &[u8; 164] = b"\x00\x10\x00\x03\x00\x1c\x00\x07\x00\x54\x00\x04
     \x01\x01\xff\x01\x01\x01\x01\x01\x01\x01\x01\x01\x01\x01\x01\x01\
     \x01\x01\x01\x01\x01\x01\x01\x01\x01\x01\x01\x01\x01\x01\x01\x01";
 
-// Where each of its records begins.
+pub fn file() -> &'static [u8]
+    ensures { λ r. ⌜ length (now r) ≡ 164 ⌝ }
+{
+    FILE
+}
+
+static OWNERS: [u32; 7] = [0, 0, 0, 1, 2, 2, 2];
+
+// The method of each node.
+pub fn owners() -> &'static [u32] {
+    &OWNERS
+}
+
+// Where each record of the file begins.
 pub const METHOD_0: usize = 16;
 
 pub const METHOD_1: usize = 20;

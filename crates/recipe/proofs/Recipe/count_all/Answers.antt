@@ -7,8 +7,8 @@ use Rattle.model.specs.Program.{countedAfter}
 use Rattle.std.specs.declared.option.Option.the-variants.{None}
 use Rattle.model.proofs.Edges.{scan-yes, scan-no, scan-end, counted-length}
 use Rattle.recipe.specs.Recipes.{program}
-use Rattle.recipe.proofs.Recipe.count.Needs as need
-use Rattle.recipe.proofs.Recipe.count.Needs.{then-counts, else-counts}
+use Rattle.recipe.proofs.Recipe.count_all.Needs as need
+use Rattle.recipe.proofs.Recipe.count_all.Needs.{then-counts, else-counts}
 
 pub loop-e-again : need.loop-e-again
 loop-e-again c =
