@@ -18,6 +18,14 @@ pub(crate) impl fmt::Display for Explained as ExplainedDisplay {
             Refusal::BadNode { node } => write!(f, "node {node}: {BAD_NODE}"),
             Refusal::BadEdge { edge } => write!(f, "edge {edge}: {BAD_EDGE}"),
             Refusal::BadRow { row } => write!(f, "row {row}: {BAD_ROW}"),
+            Refusal::NotAStep { place } => write!(
+                f,
+                "place {place}: this node is no step of the run"
+            ),
+            Refusal::StackFull { place } => write!(
+                f,
+                "place {place}: the stack has no room for this step"
+            ),
             Refusal::ShortOutput { needed } => write!(
                 f,
                 "the output is too short: the file needs {needed} bytes"

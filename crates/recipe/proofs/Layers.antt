@@ -7,7 +7,9 @@ use Prim.Native.Nat.{ℕ, zero, suc, _+_, _*_, _<_, _≤_}
 use native.Mathlib.Nat.{mul-zero, mul-suc}
 use native.Mathlib.Omega.{arith}
 use lib.ListN.{length, getD, length-append}
+use Rattle.std.specs.Finite.{nth}
 use Rattle.std.specs.Joined.{joined}
+use Rattle.std.specs.Options.{valueOr}
 use Rattle.std.specs.shelf.Lists.{All}
 use Rattle.std.proofs.shelf.Lists.{getD-append-add, getD-append-left}
 use Rattle.std.proofs.shelf.Elements.{all-append}
@@ -86,3 +88,9 @@ anyBelow-some (suc n) f e = at (or-cases (f n) (anyBelow n f) e) (λ h. anyBelow
 
 pub anyBelow-none : (n : ℕ) (f : ℕ → Bool) → ((k : ℕ) → k < n → f k ≡ false) → anyBelow n f ≡ false
 anyBelow-none n f none = elim (cases-bool (anyBelow n f)) [ inl h ↦ let w = anyBelow-some n f h in absurd (both-ways (f (w .0)) (none (w .0) (w .1)) (w .2)) | inr h ↦ h ]
+
+-- what is looked up by number, with what stands for none
+pub looked : {X : Type 0} (xs : List X) (k : ℕ) (d : X) → getD xs k d ≡ valueOr (nth xs k) d
+looked [] k d = refl
+looked (x ∷ xs) zero d = refl
+looked (x ∷ xs) (suc k) d = looked xs k d

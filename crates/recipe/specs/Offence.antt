@@ -16,7 +16,7 @@ use Rattle.recipe.specs.Bytes.{countIn, contentsIn, methodIn, nodeIn, edgeIn, 
 use Rattle.recipe.specs.declared.contents.Body.{Body}
 use Rattle.recipe.specs.declared.contents.Contents.{Contents}
 use Rattle.recipe.specs.declared.grounds.Refusal.{Refusal}
-use Rattle.recipe.specs.declared.grounds.Refusal.the-variants.{Misplaced, Miscounted, BadMethod, BadNode, BadEdge, BadRow, ShortOutput}
+use Rattle.recipe.specs.declared.grounds.Refusal.the-variants.{Misplaced, Miscounted, BadMethod, BadNode, BadEdge, BadRow, NotAStep, StackFull, ShortOutput}
 
 -- the number of a refusal
 abbrev pub numberOf : Refusal → ℕ
@@ -26,6 +26,8 @@ numberOf (BadMethod method) = 3
 numberOf (BadNode node) = 4
 numberOf (BadEdge edge) = 5
 numberOf (BadRow row) = 6
+numberOf (NotAStep place) = 16
+numberOf (StackFull place) = 17
 numberOf (ShortOutput needed) = 18
 
 -- what a refusal says beside its number: which one of them is wrong, or how many bytes are needed
@@ -36,6 +38,8 @@ detailOf (BadMethod method) = method
 detailOf (BadNode node) = node
 detailOf (BadEdge edge) = edge
 detailOf (BadRow row) = row
+detailOf (NotAStep place) = place
+detailOf (StackFull place) = place
 detailOf (ShortOutput needed) = needed
 
 -- the refusal of the first test that fails

@@ -15,6 +15,10 @@ pub enum Refusal {
     BadEdge { edge: u32 },
     // A row has a cell that leads nowhere.
     BadRow { row: u32 },
+    // The node given is no step from where the run stands, or there is none.
+    NotAStep { place: usize },
+    // The step needs a frame more than the stack has.
+    StackFull { place: usize },
     // The output is too short for the file.
     ShortOutput { needed: u32 },
 }

@@ -36,6 +36,7 @@ pub use model::Node;
 pub use model::NodeDebug;
 pub use model::NodePartialEq;
 pub use taking::take;
+pub use writing::first_places;
 pub use writing::write;
 
 // A lent file whose table of contents and length are right: four bodies without gaps.

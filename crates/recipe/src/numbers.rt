@@ -15,21 +15,24 @@ impl Refusal {
             Refusal::BadNode { .. } => 4,
             Refusal::BadEdge { .. } => 5,
             Refusal::BadRow { .. } => 6,
+            Refusal::NotAStep { .. } => 16,
+            Refusal::StackFull { .. } => 17,
             Refusal::ShortOutput { .. } => 18,
         }
     }
 
-    // Which of them is wrong, counted from 0, or how many bytes are needed.
-    pub fn detail(&self) -> u32
+    // Which of them is wrong, counted from 0, at which place of a list, or how many bytes are needed.
+    pub fn detail(&self) -> usize
         ensures { λ r. ⌜ r ≡ detailOf (now (self .entry)) ⌝ }
     {
         match *self {
-            Refusal::Misplaced { entry } | Refusal::Miscounted { entry } => entry,
-            Refusal::BadMethod { method } => method,
-            Refusal::BadNode { node } => node,
-            Refusal::BadEdge { edge } => edge,
-            Refusal::BadRow { row } => row,
-            Refusal::ShortOutput { needed } => needed,
+            Refusal::Misplaced { entry } | Refusal::Miscounted { entry } => entry as usize,
+            Refusal::BadMethod { method } => method as usize,
+            Refusal::BadNode { node } => node as usize,
+            Refusal::BadEdge { edge } => edge as usize,
+            Refusal::BadRow { row } => row as usize,
+            Refusal::NotAStep { place } | Refusal::StackFull { place } => place,
+            Refusal::ShortOutput { needed } => needed as usize,
         }
     }
 }

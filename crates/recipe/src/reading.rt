@@ -2,11 +2,13 @@
 ghost use mathlib.Core.Path.{_≡_};
 ghost use lib.ListN.{length};
 ghost use Rattle.std.specs.Finite.{nth};
-ghost use Rattle.model.specs.Program.{isEdge, counts};
+ghost use Rattle.model.specs.Access.{isEntryOf};
+ghost use Rattle.model.specs.Program.{nodeAt, isEdge, counts};
 ghost use Rattle.recipe.specs.Recipes.{program, ownEdges, methodOf, cellOf};
 use crate::Recipe;
 use crate::checking::rises_after;
 use model::Edge;
+use model::Kind;
 use model::Method;
 use model::Node;
 
@@ -59,6 +61,20 @@ impl Recipe<'_> {
         }
     }
 
+    // The node, or the one that stands for none: a return with mark 0 that is no entry.
+    pub fn node_at(&self, n: u32) -> Node
+        ensures { λ r. ⌜ r ≡ nodeAt (program (now (self .entry))) n ⌝ }
+    {
+        match self.node(n) {
+            Some(node) => node,
+            None => Node {
+                kind: Kind::Return,
+                mark: 0,
+                entry: false,
+            },
+        }
+    }
+
     // An edge of the file.
     pub fn edge(&self, i: u32) -> Option<Edge>
         ensures { λ r. ⌜ r ≡ nth (ownEdges (now (self .entry))) i ⌝ }
@@ -90,6 +106,17 @@ impl Recipe<'_> {
             Some(span.method as u32)
         } else {
             None
+        }
+    }
+
+    // Whether n is an entry of a method.
+    pub fn is_entry_of(&self, method: u32, n: u32) -> bool
+        ensures { λ r. ⌜ r ≡ isEntryOf (program (now (self .entry))) method n ⌝ }
+    {
+        let entry = self.node_at(n).entry;
+        match self.method_of(n) {
+            Some(home) => entry && home == method,
+            None => false,
         }
     }
 

@@ -115,7 +115,7 @@ impl Recipe<'_> {
 }
 
 // The places of an edge list that are read: the first 4,096.
-fn first_places(edges: &[Edge]) -> &[Edge]
+pub fn first_places(edges: &[Edge]) -> &[Edge]
     ensures value { λ r. ⌜ now r ≡ take 4096 (now (edges .entry)) ⌝ }
     ensures bound { λ r. ⌜ length (now r) ≤ 4096 ⌝ }
 {

@@ -1,26 +1,11 @@
 // What both rules ask of the recipe.
 ghost use mathlib.Core.Path.{_≡_};
 ghost use Prim.Native.Nat.{ℕ, _<_};
-ghost use Rattle.model.specs.Access.{isEntryOf, isReturnOf, setFirst, setPass};
-ghost use Rattle.model.specs.Program.{methodAt, nodeAt, isReturn, rightsOf};
+ghost use Rattle.model.specs.Access.{isReturnOf, setFirst, setPass};
+ghost use Rattle.model.specs.Program.{methodAt, isReturn, rightsOf};
 ghost use Rattle.recipe.specs.Recipes.{program};
 use recipe::Kind;
-use recipe::Node;
 use recipe::Recipe;
-
-// The node, or the one that stands for none.
-pub(crate) fn node_at(recipe: &Recipe, n: u32) -> Node
-    ensures { λ r. ⌜ r ≡ nodeAt (program (now (recipe .entry))) n ⌝ }
-{
-    match recipe.node(n) {
-        Some(node) => node,
-        None => Node {
-            kind: Kind::Return,
-            mark: 0,
-            entry: false,
-        },
-    }
-}
 
 // The rights of a method; none if there is no such method.
 pub(crate) fn rights(recipe: &Recipe, method: u32) -> u32
@@ -33,22 +18,11 @@ pub(crate) fn rights(recipe: &Recipe, method: u32) -> u32
     }
 }
 
-// Whether n is an entry of a method.
-pub(crate) fn is_entry_of(recipe: &Recipe, method: u32, n: u32) -> bool
-    ensures { λ r. ⌜ r ≡ isEntryOf (program (now (recipe .entry))) method n ⌝ }
-{
-    let entry = node_at(recipe, n).entry;
-    match recipe.method_of(n) {
-        Some(home) => entry && home == method,
-        None => false,
-    }
-}
-
 // Whether n is a return of a method.
 pub(crate) fn is_return_of(recipe: &Recipe, method: u32, n: u32) -> bool
     ensures { λ r. ⌜ r ≡ isReturnOf (program (now (recipe .entry))) method n ⌝ }
 {
-    let returns = is_return(node_at(recipe, n).kind);
+    let returns = is_return(recipe.node_at(n).kind);
     match recipe.method_of(n) {
         Some(home) => returns && home == method,
         None => false,
@@ -70,7 +44,7 @@ pub(crate) fn set_first(recipe: &Recipe, entry: u32) -> u32
     ensures answer { λ r. ⌜ r ≡ setFirst (program (now (recipe .entry))) entry ⌝ }
     ensures below { λ r. ⌜ r < 65536 ⌝ }
 {
-    if is_entry_of(recipe, 0, entry) {
+    if recipe.is_entry_of(0, entry) {
         rights(recipe, 0)
     } else {
         0
@@ -81,7 +55,7 @@ pub(crate) fn set_first(recipe: &Recipe, entry: u32) -> u32
 pub(crate) fn set_pass(recipe: &Recipe, set: u32, check: u32) -> bool
     ensures { λ r. ⌜ r ≡ setPass (program (now (recipe .entry))) set check ⌝ }
 {
-    match node_at(recipe, check).kind {
+    match recipe.node_at(check).kind {
         Kind::Check { required } => set < 65536 && required & set == required,
         Kind::Nop | Kind::Call { .. } | Kind::Return => false,
     }

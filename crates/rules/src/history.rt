@@ -1,9 +1,7 @@
 // History-based access control: what a run still may do depends on every method that it has gone through.
 ghost use Rattle.model.specs.Access.{history};
 use crate::AccessRule;
-use crate::asking::is_entry_of;
 use crate::asking::is_return_of;
-use crate::asking::node_at;
 use crate::asking::rights;
 use crate::asking::set_first;
 use crate::asking::set_pass;
@@ -26,10 +24,10 @@ pub impl AccessRule for History as HistoryRule {
     }
 
     fn enter(&self, recipe: &Recipe, value: u32, call: u32, entry: u32) -> u32 {
-        let Kind::Call { callee, grant, .. } = node_at(recipe, call).kind else {
+        let Kind::Call { callee, grant, .. } = recipe.node_at(call).kind else {
             return 0;
         };
-        if value >= 65536 || !is_entry_of(recipe, callee, entry) {
+        if value >= 65536 || !recipe.is_entry_of(callee, entry) {
             return 0;
         }
         (value | grant) & rights(recipe, callee)
@@ -40,7 +38,7 @@ pub impl AccessRule for History as HistoryRule {
     }
 
     fn back(&self, recipe: &Recipe, value: u32, call: u32, returned: u32, at: u32) -> u32 {
-        let Kind::Call { callee, accept, .. } = node_at(recipe, call).kind else {
+        let Kind::Call { callee, accept, .. } = recipe.node_at(call).kind else {
             return 0;
         };
         if value >= 65536 || returned >= 65536 || !is_return_of(recipe, callee, at) {

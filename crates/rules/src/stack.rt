@@ -1,9 +1,7 @@
 // Stack inspection: what a run may do depends on the methods that are on its stack.
 ghost use Rattle.model.specs.Access.{stackInspection};
 use crate::AccessRule;
-use crate::asking::is_entry_of;
 use crate::asking::is_return_of;
-use crate::asking::node_at;
 use crate::asking::own_rights;
 use crate::asking::rights;
 use crate::asking::set_first;
@@ -31,11 +29,11 @@ pub impl AccessRule for StackInspection as StackRule {
             callee,
             privileged,
             ..
-        } = node_at(recipe, call).kind
+        } = recipe.node_at(call).kind
         else {
             return 0;
         };
-        if value >= 65536 || !is_entry_of(recipe, callee, entry) {
+        if value >= 65536 || !recipe.is_entry_of(callee, entry) {
             return 0;
         }
         let held = if privileged {
@@ -51,7 +49,7 @@ pub impl AccessRule for StackInspection as StackRule {
     }
 
     fn back(&self, recipe: &Recipe, value: u32, call: u32, returned: u32, at: u32) -> u32 {
-        let Kind::Call { callee, .. } = node_at(recipe, call).kind else {
+        let Kind::Call { callee, .. } = recipe.node_at(call).kind else {
             return 0;
         };
         if value >= 65536 || returned >= 65536 || !is_return_of(recipe, callee, at) {

@@ -9,7 +9,7 @@ use std::alloc::Global;
 use std::test::*;
 
 // The bytes to change, each by its place, and what check answers then.
-type Case = (&'static [(usize, u8)], Result<(), (u32, u32)>);
+type Case = (&'static [(usize, u8)], Result<(), (u32, usize)>);
 
 // The fields of the records: those of one byte, and of those of two the lesser byte, which the greater one stands before.
 const COUNT: usize = 3;

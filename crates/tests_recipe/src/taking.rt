@@ -6,7 +6,7 @@ use std::alloc::Global;
 use std::test::*;
 
 // A table of contents (place and count of each body), the length of the file, and what take answers.
-type Case = ([u16; 8], usize, Result<(), (u32, u32)>);
+type Case = ([u16; 8], usize, Result<(), (u32, usize)>);
 
 // Each count at its limits and past them, in a file that is otherwise right.
 static COUNTS: [Case; 15] = [

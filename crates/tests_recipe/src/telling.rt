@@ -3,7 +3,7 @@ use recipe::Draft;
 use recipe::Recipe;
 use recipe::Refusal;
 
-pub fn told<T>(answer: Result<T, Refusal>) -> Result<T, (u32, u32)> {
+pub fn told<T>(answer: Result<T, Refusal>) -> Result<T, (u32, usize)> {
     match answer {
         Ok(value) => Ok(value),
         Err(refusal) => Err((refusal.number(), refusal.detail())),
@@ -11,13 +11,13 @@ pub fn told<T>(answer: Result<T, Refusal>) -> Result<T, (u32, u32)> {
 }
 
 // By take.
-pub fn taken(file: &[u8]) -> Result<(), (u32, u32)> {
+pub fn taken(file: &[u8]) -> Result<(), (u32, usize)> {
     let mut draft = Draft::built_in();
     told(recipe::take(file, &mut draft))
 }
 
 // By check, after take.
-pub fn checked(file: &[u8]) -> Result<(), (u32, u32)> {
+pub fn checked(file: &[u8]) -> Result<(), (u32, usize)> {
     let mut draft = Draft::built_in();
     told(recipe::take(file, &mut draft))?;
     let mut checked = Recipe::built_in();
@@ -25,7 +25,7 @@ pub fn checked(file: &[u8]) -> Result<(), (u32, u32)> {
 }
 
 // By read.
-pub fn read(file: &[u8]) -> Result<(), (u32, u32)> {
+pub fn read(file: &[u8]) -> Result<(), (u32, usize)> {
     let mut recipe = Recipe::built_in();
     told(recipe::read(file, &mut recipe))
 }

@@ -16,7 +16,7 @@ fn check_room(
     heap: Global,
     recipe: &Recipe,
     room: usize,
-    answer: Result<usize, (u32, u32)>,
+    answer: Result<usize, (u32, usize)>,
     start: &[u8],
 ) -> Result<(), Fail> {
     let mut out = vec![in heap; 7; room]?;

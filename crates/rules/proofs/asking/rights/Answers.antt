@@ -4,7 +4,7 @@ use Rattle.std.specs.Options.{valueOr}
 use Rattle.model.specs.Program.{noMethod}
 use Rattle.recipe.specs.Recipes.{program}
 use Rattle.recipe.proofs.Standing.{rights-below}
-use Rattle.rules.proofs.Looked.{looked}
+use Rattle.recipe.proofs.Layers.{looked}
 use Rattle.rules.proofs.asking.rights.Needs as need
 
 pub returns-in-Some : need.returns-in-Some

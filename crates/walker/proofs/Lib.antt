@@ -1,0 +1,3 @@
+pub mod Leads
+pub mod Replays
+pub mod Walks
