@@ -1,4 +1,6 @@
 // An inquiry digs for facts until they give a verdict.
+#![tactic(auto)]
+
 ghost use Rattle.std.specs.Prelude.{◌≤◌, length};
 
 mod closing;

@@ -1,4 +1,6 @@
 // Reads a recipe file from standard input and says in words what it holds, or why it is refused.
+#![tactic(auto)]
+
 ghost use Rattle.std.specs.Prelude.{◌≡◌, IfOk};
 ghost use Rattle.recipe.specs.Recipes.{own_edges};
 

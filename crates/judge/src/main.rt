@@ -1,4 +1,6 @@
 // Reads a recipe file from standard input, and prints what it comes to under both rules.
+#![tactic(auto)]
+
 use judging::judge;
 use std::io::Read;
 

@@ -1,4 +1,6 @@
 // Judges the recipe files that it is given by name, and prints each name with what the file comes to.
+#![tactic(auto)]
+
 use judging::judge;
 use std::{env, fs};
 

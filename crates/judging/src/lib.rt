@@ -1,4 +1,6 @@
 // What a recipe file comes to: an inquiry under each rule, with the watch of the recipe's own rows.
+#![tactic(auto)]
+
 mod deciding;
 mod showing;
 

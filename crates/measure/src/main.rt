@@ -1,4 +1,6 @@
 // Inquires into recipes with many facts. Without a word it prints what two inquiries come to; with the word `time` how long each of a dozen takes.
+#![tactic(auto)]
+
 mod rings;
 
 use anyhow::anyhow;

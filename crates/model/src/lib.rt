@@ -1,4 +1,5 @@
 // The words of the subject: what a recipe is made of, shared by the code and by the mathematics above it.
+#![tactic(auto)]
 
 mod laws;
 

@@ -1,4 +1,6 @@
 // Recipe files: drafts and recipes over lent bytes, how they are taken, checked, read and written.
+#![tactic(auto)]
+
 ghost use Rattle.std.specs.Prelude.{◌≡◌, ℕ, ◌+◌, ◌*◌, ◌<◌, ◌≤◌, true, length, slice_index};
 ghost use Rattle.recipe.specs.Bytes.{place_in, count_in};
 ghost use Rattle.recipe.specs.Offence.{method_test, node_test, entry_test, edge_test, row_test};

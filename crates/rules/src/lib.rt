@@ -1,4 +1,6 @@
 // Access rules and watches: two traits, and two implementations of each.
+#![tactic(auto)]
+
 mod asking;
 mod history;
 mod stack;

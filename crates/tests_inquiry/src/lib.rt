@@ -1,5 +1,7 @@
 // Tests of the inquiry: its tables row by row, digs in pieces, small tables, refusals, other recipes, and edge tables that were tampered with.
 // All of it is for the tests alone, so that no function of it is proved twice.
+#![tactic(auto)]
+
 #[cfg(test)]
 mod facts_of_a;
 #[cfg(test)]

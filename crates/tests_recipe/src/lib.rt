@@ -1,5 +1,7 @@
 // Tests of recipe files: what is taken, checked, read and written, on files that are built here.
 // All of it is for the tests alone, so that no function of it is proved twice.
+#![tactic(auto)]
+
 #[cfg(test)]
 mod answers;
 #[cfg(test)]

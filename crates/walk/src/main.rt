@@ -1,4 +1,6 @@
 // Follows a list of nodes through a recipe under one of the rules, and prints each step.
+#![tactic(auto)]
+
 use model::Frame;
 use recipe::{Edge, Recipe, Refusal};
 use rules::{AccessRule, History, StackInspection, TableWatch};

@@ -1,4 +1,6 @@
 // Walks along a given list of nodes: the frames are in a lent stack.
+#![tactic(auto)]
+
 mod leading;
 mod replaying;
 mod stands;
