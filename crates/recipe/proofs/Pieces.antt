@@ -1,5 +1,5 @@
 -- Parts of a list of bytes: a record read out of a part of the file is the record at that place; what a list holds after bytes are put at a place of it.
-use Rattle.std.proofs.Common.{◌≡◌, ℕ, ◌+◌, ◌-◌, ◌<◌, ◌≤◌, List, ◌++◌, length, get_or, take, drop, sym, refl, ap, ◌∙◌, add-zero, arith, lit<, length-append, length-drop, get_or-drop, get_or-take}
+use Rattle.std.proofs.Common.{◌≡◌, ℕ, ◌+◌, ◌-◌, ◌<◌, ◌≤◌, List, ◌++◌, length, take, drop, sym, ap, ◌∙◌, add-zero, arith, lit<, length-append, length-drop, get_or-drop, get_or-take}
 use Rattle.std.proofs.lemmas.List.{drop-drop, append_assoc, take_at, drop_at, length-take-le}
 use Rattle.recipe.specs.Bytes.{byte_at, record_of, record_at}
 

@@ -1,5 +1,5 @@
 -- What a layout's ghost facts say of its bytes.
-use Rattle.std.proofs.Common.{◌≡◌, ℕ, ◌+◌, ◌*◌, arith}
+use Rattle.std.proofs.Common.{◌≡◌, arith}
 use Rattle.recipe.specs.declared.Layout.{Layout}
 use Rattle.recipe.proofs.WriteBack.{Taken}
 use Rattle.recipe.specs.Bytes.{nodes_at, edges_at, rows_at}

@@ -14,7 +14,7 @@ use Rattle.model.specs.declared.Kind.TheVariants.{Nop, Call, Check, Return}
 use Rattle.model.specs.declared.Method.{Method}
 use Rattle.model.specs.declared.Node.{Node}
 use Rattle.model.specs.Lawful.{Lawful, KindRules, CellRules}
-use Rattle.model.specs.Program.{Program, no_method, no_node, no_edge, no_row, method_at, node_at, offset, home, rights_of, EdgeRules, is_edge, is_return, Rises, rises, rises_after}
+use Rattle.model.specs.Program.{Program, no_method, no_node, no_edge, no_row, method_at, node_at, offset, home, rights_of, is_edge, rises, rises_after}
 use Rattle.model.proofs.Edges.{edge_passes, rise_passes}
 use Rattle.model.proofs.Sums.{offset_step, offset_mono}
 use Rattle.recipe.specs.Bytes.{byte_at, word_at, place_in, count_in, nodes_at, edges_at, rows_at, method_in, edge_in, cell_in, kind_of, with_mark, record_of, record_at, node_in, listed, row_in, program_of, edges_of}

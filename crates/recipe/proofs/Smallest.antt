@@ -1,5 +1,5 @@
 -- The smallest program is lawful, so that its file stands.
-use Rattle.std.proofs.Common.{◌≡◌, ℕ, zero, suc, ◌<◌, List, [], length, refl, arith}
+use Rattle.std.proofs.Common.{ℕ, zero, suc, ◌<◌, [], refl, arith}
 use Rattle.model.specs.Lawful.{Lawful, MethodRules, NodeRules}
 use Rattle.model.specs.Program.{offset, node_at, rights_of}
 use Rattle.recipe.specs.Bytes.{byte_at}

@@ -1,5 +1,5 @@
 -- Check's stages after one another: the first stage that refuses gives the refusal. And the exit of a `?`.
-use Rattle.std.proofs.Common.{◌≡◌, ℕ, Bool, List, ◌++◌, IsErrAnd, Some, None, Result, ap, ◌∙◌}
+use Rattle.std.proofs.Common.{◌≡◌, ℕ, Bool, List, IsErrAnd, Some, None, Result, ap, ◌∙◌}
 use Rattle.std.specs.Result.{result_err}
 use Rattle.std.proofs.lemmas.Result.{err_from_is_err_and}
 use Rattle.recipe.specs.declared.grounds.Refusal.{Refusal}

@@ -1,17 +1,16 @@
 -- What a recipe's ghost facts say of its program: how many records it has, what each is, that it is lawful and that its file is what is written for it.
-use Rattle.std.proofs.Common.{◌≡◌, ℕ, ◌+◌, ◌<◌, ◌≤◌, true, List, map, length, get_or, Some, None, Option, sym, refl, ap, ◌∙◌, zero-add, arith}
+use Rattle.std.proofs.Common.{◌≡◌, ℕ, ◌<◌, ◌≤◌, true, map, length, Some, None, Option, sym, ap, ◌∙◌, zero-add, arith}
 use Rattle.std.specs.List.{slice_get, range_with_len as counting}
 use Rattle.std.proofs.lemmas.Bool.{and_parts}
 use Rattle.std.proofs.lemmas.List.FromFn.{length-map-range_with_len, get_or-map-range_with_len}
 use Rattle.std.proofs.lemmas.List.{get_or_past}
 use Rattle.std.proofs.lemmas.Option.{slice_get-get_or as nth_get_or, slice_get_past}
 use Rattle.model.specs.declared.Edge.{Edge}
-use Rattle.model.specs.declared.Method.{Method}
 use Rattle.model.specs.Lawful.{Lawful}
 use Rattle.model.proofs.Edges.{edge_rules}
-use Rattle.model.specs.Program.{no_method, no_node, no_edge, no_row, method_at, node_at, is_edge, rises_after, counts}
+use Rattle.model.specs.Program.{no_method, no_node, no_edge, no_row, method_at, is_edge, rises_after, counts}
 use Rattle.recipe.specs.declared.Recipe.{Recipe}
-use Rattle.recipe.specs.Bytes.{count_in, method_in, node_in, edge_in, cell_in, program_of, edges_of}
+use Rattle.recipe.specs.Bytes.{method_in, node_in, edge_in, cell_in}
 use Rattle.recipe.specs.Format.{bytes_of}
 use Rattle.recipe.specs.Recipes.{file_of, program, own_edges, cell_of}
 use Rattle.recipe.specs.Spans.{Summed}

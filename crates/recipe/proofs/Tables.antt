@@ -1,5 +1,5 @@
 -- What a table of contents says that take's tests pass.
-use Rattle.std.proofs.Common.{◌≡◌, ℕ, ◌≤◌, true, false, eqb, leb, [], ◌∷◌, None}
+use Rattle.std.proofs.Common.{◌≡◌, ℕ, ◌≤◌, None}
 use Rattle.std.proofs.lemmas.Bool.{leb-true, eqb-true, and_parts}
 use Rattle.recipe.specs.declared.contents.Contents.{Contents}
 use Rattle.recipe.specs.Offence.{first_offence, ends, count_tests, place_tests}

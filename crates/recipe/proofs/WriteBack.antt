@@ -1,25 +1,21 @@
 -- A file that take and check refuse nothing of is legal: it is what is written for the program and the edges that its bytes say, and these are lawful.
-use Rattle.std.proofs.Common.{◌≡◌, ℕ, zero, suc, ◌+◌, ◌*◌, ◌/◌, ◌%◌, ◌<◌, ◌≤◌, Bool, true, false, cond, not, ◌&&◌, eqb, ltb, leb, ◌⊎◌, List, [], ◌∷◌, ◌++◌, length, get_or, drop, Some, None, Option, unwrap_or, sym, refl, ap, ◌∙◌, subst, inl, inr, arith}
+use Rattle.std.proofs.Common.{◌≡◌, ℕ, suc, ◌+◌, ◌*◌, ◌<◌, ◌≤◌, true, eqb, ltb, List, ◌∷◌, ◌++◌, length, drop, Some, None, Option, unwrap_or, sym, refl, ap, ◌∙◌, inl, inr, arith}
 use lib.Bits.{bit_and}
 use Rattle.std.proofs.lemmas.List.{append-nil, drop_all}
 use Rattle.std.proofs.lemmas.List.FromFn.{length-map-range_with_len, get_or-map-range_with_len}
-use Rattle.std.proofs.lemmas.Bool.{and_parts, and_from, leb-true, ltb-true, eqb-true, le-leb, eq-eqb, or_cases, not-true, cases_eq}
-use Rattle.std.proofs.lemmas.Bool.Decides.{nat_tests}
+use Rattle.std.proofs.lemmas.Bool.{and_parts, ltb-true, eqb-true, or_cases}
 use Rattle.std.specs.List.{flat_map}
-use Rattle.model.specs.declared.Edge.{Edge}
 use Rattle.model.specs.declared.Kind.{Kind}
-use Rattle.model.specs.declared.Kind.TheVariants.{Nop, Call, Check, Return}
 use Rattle.model.specs.declared.Method.{Method}
 use Rattle.model.specs.declared.Node.{Node}
-use Rattle.model.specs.Program.{Program, no_method, no_node, no_edge, no_row, method_at, node_at, offset, home, rights_of, is_edge, is_return, rises_after}
+use Rattle.model.specs.Program.{no_node, method_at, node_at, offset, rights_of, is_edge, rises_after}
 use Rattle.model.specs.Lawful.{Lawful, KindRules, NodeRules, MethodRules, CellRules, RowRules}
-use Rattle.recipe.specs.declared.grounds.Refusal.{Refusal}
 use Rattle.recipe.specs.declared.grounds.Refusal.TheVariants.{BadMethod, BadNode, BadEdge, BadRow}
-use Rattle.recipe.specs.Bytes.{byte_at, word_at, place_in, count_in, nodes_at, edges_at, rows_at, end_at, method_in, edge_in, cell_in, node_in, row_in, listed, program_of, edges_of, kind_of, with_mark, record_of, record_at}
+use Rattle.recipe.specs.Bytes.{byte_at, word_at, place_in, count_in, nodes_at, edges_at, rows_at, end_at, method_in, edge_in, cell_in, node_in, row_in, listed, program_of, edges_of, record_at}
 use Rattle.recipe.specs.Format.{word, method_bytes, node_bytes, edge_bytes, row_bytes, contents_bytes, bytes_of, Legal}
-use Rattle.recipe.specs.Offence.{first_offence, each, between, take_tests, check_tests, method_test, node_test, entry_test, edge_test, row_test, cell_test, all_below, any_below, kind_fits, record_fits, edge_before}
+use Rattle.recipe.specs.Offence.{first_offence, each, check_tests, method_test, node_test, entry_test, edge_test, row_test, cell_test, kind_fits, record_fits, edge_before}
 use Rattle.recipe.proofs.Chunks.{chunks, drop_read, drop_four, drop_eight}
-use Rattle.recipe.proofs.Firsts.{passed, offence_past, none_of_both, each_passes}
+use Rattle.recipe.proofs.Firsts.{none_of_both, each_passes}
 use Rattle.recipe.proofs.Decoding.{Small, Told, is_nop, is_call, is_check_lem, is_return_lem, told_at, high_low, record_bytes}
 use Rattle.recipe.proofs.Layers.{any_below_some, all_below_at}
 use Rattle.recipe.proofs.Scans.{methods_length, nodes_length, edges_length, rows_length, method_at_lem, node_at_lem, edge_at, row_at, method_told, summed}

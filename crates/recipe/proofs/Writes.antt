@@ -1,13 +1,13 @@
 -- The file that write puts together, piece by piece, is the file of the recipe's program with the edges that count.
-use Rattle.std.proofs.Common.{◌≡◌, ℕ, ◌+◌, ◌-◌, ◌*◌, ◌<◌, ◌≤◌, List, [], ◌∷◌, ◌++◌, length, take, drop, sym, refl, ap, ◌∙◌, append_assoc, arith, length-append, length-drop, length-take}
+use Rattle.std.proofs.Common.{◌≡◌, ℕ, ◌+◌, ◌-◌, ◌*◌, ◌≤◌, List, [], ◌++◌, length, take, drop, sym, refl, ap, ◌∙◌, append_assoc, arith, length-append, length-drop, length-take}
 use Rattle.std.specs.List.{flat_map}
 use Rattle.std.proofs.lemmas.List.{take_at, append-nil, take_all, drop_all}
 use Rattle.model.specs.declared.Edge.{Edge}
 use Rattle.model.specs.Lawful.{Lawful}
-use Rattle.model.specs.Program.{Program, counted}
+use Rattle.model.specs.Program.{counted}
 use Rattle.model.proofs.Edges.{lawful_with, lawful_counted}
 use Rattle.recipe.specs.declared.Recipe.{Recipe}
-use Rattle.recipe.specs.Bytes.{nodes_at, edges_at, rows_at, end_at, program_of, edges_of}
+use Rattle.recipe.specs.Bytes.{edges_at, end_at, program_of, edges_of}
 use Rattle.recipe.specs.Format.{method_bytes, node_bytes, edge_bytes, row_bytes, contents_bytes, bytes_of, Legal}
 use Rattle.recipe.specs.Recipes.{file_of, program, own_edges}
 use Rattle.recipe.specs.Writing.{listed_edges, file_with}

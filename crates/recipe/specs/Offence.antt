@@ -4,7 +4,7 @@ use Rattle.model.specs.declared.Edge.{Edge}
 use Rattle.model.specs.declared.Kind.{Kind}
 use Rattle.model.specs.declared.Kind.TheVariants.{Nop, Call, Check, Return}
 use Rattle.model.specs.declared.Node.{Node}
-use Rattle.model.specs.Program.{Program, node_at, offset, rights_of, counts}
+use Rattle.model.specs.Program.{node_at, offset, rights_of, counts}
 use Rattle.recipe.specs.Bytes.{count_in, contents_in, method_in, node_in, edge_in, cell_in, listed, program_of}
 use Rattle.recipe.specs.declared.contents.Body.{Body}
 use Rattle.recipe.specs.declared.contents.Contents.{Contents}

@@ -1,5 +1,5 @@
 -- What a recipe stands for: its program and its own edges.
-use Rattle.std.specs.Prelude.{ℕ, Bool, true, cond, List, [], ◌∷◌, length, Some, None, Option, nat_lt, slice_index_or}
+use Rattle.std.specs.Prelude.{ℕ, true, cond, List, [], ◌∷◌, length, Some, None, Option, nat_lt, slice_index_or}
 use Rattle.std.specs.List.{slice_get}
 use Rattle.model.specs.declared.Edge.{Edge}
 use Rattle.model.specs.declared.Kind.TheVariants.{Return}

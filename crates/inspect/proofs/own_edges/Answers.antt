@@ -4,7 +4,7 @@ use Rattle.std.proofs.lemmas.Option.{slice_get-get_or}
 use Rattle.model.specs.Program.{no_edge}
 use Rattle.recipe.specs.Recipes.{own_edges}
 use Rattle.inspect.proofs.own_edges.Goals as goal
-use Rattle.inspect.proofs.own_edges.Goals.{in-Some+in-ok-push, in-default}
+use Rattle.inspect.proofs.own_edges.Goals.{in-Some+in_ok-push, in-default}
 
 -- One more edge: the recipe has one of this number, so it is Some, and it was pushed.
 pub loop-i-preserved : goal.loop-i-preserved
@@ -15,7 +15,7 @@ loop-i-preserved c =
     let here = c.edge.ensures ∙ slice_get-get_or es i no_edge lt in
     let more = take_more es i no_edge lt in
     elim c.match-edge.branch [
-      | in-Some+in-ok-push w ↦ let pushed = w.in-ok-push.ensures.items in cc
+      | in-Some+in_ok-push w ↦ let pushed = w.in_ok-push.ensures.items in cc
       | in-default w ↦ cc
     ]
 

@@ -7,7 +7,7 @@ use Rattle.recipe.specs.Recipes.{program}
 use Rattle.inquiry.specs.Inquiries.{scene_of, state_of}
 use Rattle.inquiry.proofs.Growing.{going_start, going_one, going_on, going_at, going_end, each_one}
 use Rattle.inquiry.proofs.Inquiry.begin.Goals as goal
-use Rattle.inquiry.proofs.Inquiry.begin.Goals.{then-is-entry-of, else-is-entry-of}
+use Rattle.inquiry.proofs.Inquiry.begin.Goals.{then-is_entry_of, else-is_entry_of}
 
 pub loop-node-init : goal.loop-node-init
 loop-node-init g c = going_start c.args.self.now _
@@ -23,13 +23,13 @@ loop-node-preserved g c =
     let is = is_entry_of p 0 n in
     let t = c.loop-node.self in
     let lt : n < length p.nodes = omega (arith, c.loop-node-test.true, c.nodes-node-end.ensures) in
-    elim c.if-is-entry-of.branch [
-      | then-is-entry-of w ↦
+    elim c.if-is_entry_of.branch [
+      | then-is_entry_of w ↦
           going_at w.self-is (going_one row (each_from (n + 1) (length p.nodes) f)
-          (going_on (each_one n (length p.nodes) f row lt (cond-true is (row ∷ []) [] (sym w.if-is-entry-of.ensures))) c.loop-node.invariant)
-          (w.offer.ensures.state ∙ ap (offer t.places (state_of t)) w.first-row.ensures) w.offer.ensures.grown)
-      | else-is-entry-of w ↦
-          going_at w.self-is (going_on (each_pass n (length p.nodes) f lt (cond-false is (row ∷ []) [] (sym w.if-is-entry-of.ensures))) c.loop-node.invariant)
+          (going_on (each_one n (length p.nodes) f row lt (cond-true is (row ∷ []) [] (sym w.if-is_entry_of.ensures))) c.loop-node.invariant)
+          (w.offer.ensures.state ∙ ap (offer t.places (state_of t)) w.first_row.ensures) w.offer.ensures.grown)
+      | else-is_entry_of w ↦
+          going_at w.self-is (going_on (each_pass n (length p.nodes) f lt (cond-false is (row ∷ []) [] (sym w.if-is_entry_of.ensures))) c.loop-node.invariant)
     ]
 
 pub returns : goal.returns

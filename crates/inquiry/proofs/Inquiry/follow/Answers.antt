@@ -15,7 +15,7 @@ loop-found-preserved g c =
     let t = c.loop-found.self in
     going_one (along c.in-Some.found.to) (map along (ahead scene.recipe.now scene.edges.now c.in-Some.found.next from.fact.node))
     (going_on (ap (map along) c.in-Some.ensures.0) c.loop-found.invariant)
-    (c.offer.ensures.state ∙ ap (offer t.places (state_of t)) c.follow-row.ensures) c.offer.ensures.grown
+    (c.offer.ensures.state ∙ ap (offer t.places (state_of t)) c.follow_row.ensures) c.offer.ensures.grown
 
 pub loop-found-smaller : goal.loop-found-smaller
 loop-found-smaller g c = omega (arith, c.in-Some.ensures.1, c.in-Some.ensures.2)

@@ -7,8 +7,8 @@ use Rattle.inquiry.proofs.Inquiry.join_returns.Goals as goal
 pub loop-at-init : goal.loop-at-init
 loop-at-init g c = going_start c.args.self.now _
 
-pub come-back-requires : goal.come-back-requires
-come-back-requires g c =
+pub come_back-requires : goal.come_back-requires
+come_back-requires g c =
     let b = c.args.self.now in
     let found = c.in-Some.ensures in
     let few : b.held ≤ 65536 = omega (arith, b.within, b.few) in
@@ -30,7 +30,7 @@ loop-at-preserved g c =
     going_some (backs X own.at own.fact at (row_at t.facts.now at)) (each_from (at + 1) own.at f)
     (going_on (each_first c.loop-at.from at own.at f found.0 lt (λ k low high. no_return X grown own.at own.fact k (omega arith) (found.3 k low high))
     ∙ ap (λ xs. xs ++ each_from (at + 1) own.at f) (a_return X grown own.at own.fact at (omega arith) found.2)) c.loop-at.invariant)
-    c.come-back.ensures.state c.come-back.ensures.grown
+    c.come_back.ensures.state c.come_back.ensures.grown
 
 pub returns : goal.returns
 returns g c =

@@ -5,7 +5,7 @@ use Rattle.model.proofs.Held.{offer_full, offer_held, offer_new, offer_past}
 use Rattle.inquiry.proofs.Growing.{search_is, grown_same}
 use Rattle.inquiry.proofs.Looking.{rows_fit}
 use Rattle.inquiry.proofs.Inquiry.offer.Goals as goal
-use Rattle.inquiry.proofs.Inquiry.offer.Goals.{then-self-via-then-self, then-self-via-else-self+then-is-some}
+use Rattle.inquiry.proofs.Inquiry.offer.Goals.{then-self-via-then-self, then-self-via-else-self+then-is_some}
 
 pub returns-then-self : goal.returns-then-self
 returns-then-self c =
@@ -13,7 +13,7 @@ returns-then-self c =
     record {
       state = elim c.then-self.branch [
         | then-self-via-then-self w ↦ sym (offer_full t.places (state_of t) c.args.fact w.if-self.true)
-        | then-self-via-else-self+then-is-some w ↦ sym (offer_held t.places (state_of t) c.args.fact (sym w.place-of.ensures.found ∙ sym w.if-is-some.ensures))
+        | then-self-via-else-self+then-is_some w ↦ sym (offer_held t.places (state_of t) c.args.fact (sym w.place_of.ensures.found ∙ sym w.if-is_some.ensures))
       ];
       grown = grown_same t;
     }
@@ -26,7 +26,7 @@ returns-then-held-self c =
     let long = length-take-le t.held t.facts.now fit in
     record {
       state = search_is (take_more_set t.facts.now t.held c.args.fact lt) refl c.if-self.false
-          ∙ sym (offer_new t.places (state_of t) c.args.fact c.if-self.false (sym c.place-of.ensures.found ∙ sym c.if-is-some.ensures) (omega (arith, c.if-held-self.true)));
+          ∙ sym (offer_new t.places (state_of t) c.args.fact c.if-self.false (sym c.place_of.ensures.found ∙ sym c.if-is_some.ensures) (omega (arith, c.if-held-self.true)));
       grown = record {
         same = refl;
         places = refl;
@@ -43,6 +43,6 @@ returns-else-held-self c =
     let t = c.args.self.now in
     let long = length-take-le t.held t.facts.now (rows_fit t) in
     record {
-      state = sym (offer_past t.places (state_of t) c.args.fact c.if-self.false (sym c.place-of.ensures.found ∙ sym c.if-is-some.ensures) (omega (arith, c.if-held-self.false)));
+      state = sym (offer_past t.places (state_of t) c.args.fact c.if-self.false (sym c.place_of.ensures.found ∙ sym c.if-is_some.ensures) (omega (arith, c.if-held-self.false)));
       grown = record { same = refl; places = refl; more = omega arith; kept = refl; rest = refl; opening = refl; refusal = refl };
     }

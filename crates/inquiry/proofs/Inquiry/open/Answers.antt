@@ -17,7 +17,7 @@ returns g c =
     let edges = c.args.edges.now in
     let X = setting_of (g.R.AccessRule.meaning c.args.rule.now) (g.W.Watch.watching c.args.watch.now) recipe own in
     let refusal = fit_refusal X.rule.values X.watch.states (length own) (length facts) (length edges) in
-    let none : None ≡ refusal = none_there _ c.if-is-some.ensures ∙ c.unfit-refusal.ensures in
+    let none : None ≡ refusal = none_there _ c.if-is_some.ensures ∙ c.unfit-refusal.ensures in
     let t = c.start.new.self in
     let grown = c.start.ensures.grown in
     let search : state_of t ≡ opened X (length facts) = c.start.ensures.state ∙ opened_is X (length facts) in
@@ -28,6 +28,6 @@ returns g c =
       state = leaves_new refusal (state_of t) (opened X (length facts)) empty none search;
       same = grown.same;
       rest = grown.rest;
-      edges = leaves_new refusal c.copy-edges.new.edges _ edges none c.copy-edges.ensures;
+      edges = leaves_new refusal c.copy_edges.new.edges _ edges none c.copy_edges.ensures;
       sound = λ _. subst (Sound X (length facts)) (sym search) (opened_sound X (length facts));
     }

@@ -21,15 +21,15 @@ front file out after n = split (leb (length file) (length out))
     split false answer output = let z : ◌≡◌ {A = ℕ} 0 1 = cc in absurd (omega arith)
 
 -- What was written is legal, so to read it is never refused.
-pub returns-in-err-read : goal.returns-in-err-read
-returns-in-err-read c =
-    let same = front _ _ _ _ c.in-ok-bytes.ensures.answer c.write.ensures.output in
-    let wrong : false ≡ true = c.in-err-read.ensures.legal.1 (rw same c.write.ensures.legal) in
+pub returns-in_err-read : goal.returns-in_err-read
+returns-in_err-read c =
+    let same = front _ _ _ _ c.in_ok-bytes.ensures.answer c.write.ensures.output in
+    let wrong : false ≡ true = c.in_err-read.ensures.legal.1 (rw same c.write.ensures.legal) in
     let z : ◌≡◌ {A = ℕ} 0 1 = cc in
     absurd (omega arith)
 
 pub returns : goal.returns
 returns c = record {
-  read = front _ _ _ _ c.in-ok-bytes.ensures.answer c.write.ensures.output;
+  read = front _ _ _ _ c.in_ok-bytes.ensures.answer c.write.ensures.output;
   same = c.write.ensures.same;
 }

@@ -15,8 +15,8 @@ returns-in-Ok c =
     let same : file_of recipe ≡ file = c.in-Ok.ensures.filled in
     let both : List ℕ → Judgement = λ bs. Legal (report_in history bs) (report_in stack_inspection bs) in
     record {
-      answer = cases_map c.judge-recipe.result (λ j. j ≡ both (file_of recipe)) (λ j. j ≡ judgement_of file) (λ j e. e ∙ ap both same ∙ ap (λ o. judged_by o file) c.in-Ok.ensures.answer) c.judge-recipe.ensures;
-      tells = cases_map c.judge-recipe.result (λ j. j ≡ both (file_of recipe)) (Tells file) (λ j e. subst (Tells file) (sym (e ∙ ap both same)) (reports_tell file (c.in-Ok.ensures.legal.0 refl))) c.judge-recipe.ensures;
+      answer = cases_map c.judge_recipe.result (λ j. j ≡ both (file_of recipe)) (λ j. j ≡ judgement_of file) (λ j e. e ∙ ap both same ∙ ap (λ o. judged_by o file) c.in-Ok.ensures.answer) c.judge_recipe.ensures;
+      tells = cases_map c.judge_recipe.result (λ j. j ≡ both (file_of recipe)) (Tells file) (λ j e. subst (Tells file) (sym (e ∙ ap both same)) (reports_tell file (c.in-Ok.ensures.legal.0 refl))) c.judge_recipe.ensures;
     }
 
 pub returns-in-Err : goal.returns-in-Err

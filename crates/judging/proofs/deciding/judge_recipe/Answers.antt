@@ -11,6 +11,6 @@ returns c =
     let recipe = c.args.recipe.now in
     let h = report_in history (file_of recipe) in
     let s = report_in stack_inspection (file_of recipe) in
-    let first : c.in-ok-history.history ≡ Ok h = c.in-ok-history.ensures ∙ ap (λ x. answered x h) (fits recipe) in
-    let second : c.in-ok-stack.stack ≡ Ok s = c.in-ok-stack.ensures ∙ ap (λ x. answered x s) (fits recipe) in
+    let first : c.in_ok-history.history ≡ Ok h = c.in_ok-history.ensures ∙ ap (λ x. answered x h) (fits recipe) in
+    let second : c.in_ok-stack.stack ≡ Ok s = c.in_ok-stack.ensures ∙ ap (λ x. answered x s) (fits recipe) in
     c.both.ensures ∙ (λ i. both_of (first i) (second i))

@@ -1,12 +1,12 @@
-use Rattle.std.proofs.Common.{◌≡◌, ◌<◌, ◌≤◌, true, false, Some, sym, refl, ap, ◌∙◌, add-one, arith, below_more}
+use Rattle.std.proofs.Common.{◌<◌, Some, sym, ap, ◌∙◌, add-one, arith, below_more}
 use Rattle.std.proofs.lemmas.Bool.{and_left, and_right, and_from}
-use Rattle.recipe.specs.Bytes.{count_in, edge_in}
+use Rattle.recipe.specs.Bytes.{count_in}
 use Rattle.recipe.specs.declared.grounds.Refusal.TheVariants.{BadEdge}
 use Rattle.recipe.specs.Offence.{edge_test, edge_before}
 use Rattle.recipe.proofs.Firsts.{each_first, each_none}
 use Rattle.recipe.proofs.Scans.{edge_record, far_edge, rises_from}
 use Rattle.recipe.proofs.Layout.check_edges.Goals as goal
-use Rattle.recipe.proofs.Layout.check_edges.Goals.{then-e-nodes-via-then-e-nodes, then-e-nodes-via-else-e-nodes+then-not-rises-after}
+use Rattle.recipe.proofs.Layout.check_edges.Goals.{then-e-nodes-via-then-e-nodes, then-e-nodes-via-else-e-nodes+then-not-rises_after}
 
 pub returns-then-e-nodes : goal.returns-then-e-nodes
 returns-then-e-nodes c =
@@ -16,16 +16,16 @@ returns-then-e-nodes c =
     let r = edge_record bs i c.loop-i.last c.edge-e.result c.edge-e.ensures c.loop-i.invariant.1 in
     sym (each_first (edge_test bs) BadEdge (count_in bs 2) i lt c.loop-i.invariant.3 (r ∙ elim c.then-e-nodes.branch [
       | then-e-nodes-via-then-e-nodes w ↦ and_left _ _ (far_edge bs c.edge-e.result (let h = w.if-e-nodes.true in omega arith))
-      | then-e-nodes-via-else-e-nodes+then-not-rises-after w ↦ and_right _ _ (sym w.if-not-rises-after.ensures)
+      | then-e-nodes-via-else-e-nodes+then-not-rises_after w ↦ and_right _ _ (sym w.if-not-rises_after.ensures)
     ]))
 
-pub returns-then-not-edge-fits : goal.returns-then-not-edge-fits
-returns-then-not-edge-fits c =
+pub returns-then-not-edge_fits : goal.returns-then-not-edge_fits
+returns-then-not-edge_fits c =
     let bs = c.args.self.now.file.now in
     let i = c.loop-i.i in
     let lt : i < count_in bs 2 = omega arith in
     let r = edge_record bs i c.loop-i.last c.edge-e.result c.edge-e.ensures c.loop-i.invariant.1 in
-    sym (each_first (edge_test bs) BadEdge (count_in bs 2) i lt c.loop-i.invariant.3 (r ∙ and_left _ _ (sym c.if-not-edge-fits.ensures)))
+    sym (each_first (edge_test bs) BadEdge (count_in bs 2) i lt c.loop-i.invariant.3 (r ∙ and_left _ _ (sym c.if-not-edge_fits.ensures)))
 
 pub loop-i-preserved : goal.loop-i-preserved
 loop-i-preserved c =
@@ -35,7 +35,7 @@ loop-i-preserved c =
       c.seek-span.ensures.spans,
       ap Some c.edge-e.ensures ∙ ap (edge_before bs) (sym (add-one i)),
       (λ e h. let f = rises_from c.edge-e.result e h in omega arith),
-      below_more _ _ c.loop-i.invariant.3 (r ∙ and_from _ _ (sym c.if-not-edge-fits.ensures) (sym c.if-not-rises-after.ensures)),
+      below_more _ _ c.loop-i.invariant.3 (r ∙ and_from _ _ (sym c.if-not-edge_fits.ensures) (sym c.if-not-rises_after.ensures)),
     )
 
 pub returns : goal.returns

@@ -1,4 +1,4 @@
-use Rattle.std.proofs.Common.{◌≡◌, ◌<◌, sym, refl, ap, ◌∙◌, arith, rules, below_more}
+use Rattle.std.proofs.Common.{◌<◌, sym, refl, ap, ◌∙◌, arith, rules, below_more}
 use Rattle.model.specs.Program.{offset}
 use Rattle.recipe.specs.Bytes.{count_in}
 use Rattle.recipe.specs.declared.grounds.Refusal.TheVariants.{BadMethod}
@@ -11,8 +11,8 @@ pub loop-k-init : goal.loop-k-init
 unfolding offset
 loop-k-init c = (refl, λ j h. absurd (omega arith))
 
-pub has-entry-requires : goal.has-entry-requires
-has-entry-requires c =
+pub has_entry-requires : goal.has_entry-requires
+has_entry-requires c =
     let bs = c.args.self.now.file.now in
     let lt : c.loop-k.k < count_in bs 0 = omega arith in
     let own = ap (λ m. m.nodes) c.method-own.ensures in
@@ -20,17 +20,17 @@ has-entry-requires c =
     let w = span_within bs c.requires c.loop-k.k lt in
     omega arith
 
-pub returns-then-not-has-entry : goal.returns-then-not-has-entry
-returns-then-not-has-entry c =
+pub returns-then-not-has_entry : goal.returns-then-not-has_entry
+returns-then-not-has_entry c =
     let bs = c.args.self.now.file.now in
     let k = c.loop-k.k in
     let lt : k < count_in bs 0 = omega arith in
     let own = ap (λ m. m.nodes) c.method-own.ensures in
     let e = entry_test_lem bs k c.loop-k.first c.method-own.result.nodes c.loop-k.invariant.0 own in
-    sym (each_first (entry_test bs) BadMethod (count_in bs 0) k lt c.loop-k.invariant.1 (e ∙ sym c.if-not-has-entry.ensures))
+    sym (each_first (entry_test bs) BadMethod (count_in bs 0) k lt c.loop-k.invariant.1 (e ∙ sym c.if-not-has_entry.ensures))
 
-pub overflow-add-first : goal.overflow-add-first
-overflow-add-first c =
+pub overflow_add-first : goal.overflow_add-first
+overflow_add-first c =
     let bs = c.args.self.now.file.now in
     let lt : c.loop-k.k < count_in bs 0 = omega arith in
     let own = ap (λ m. m.nodes) c.method-own.ensures in
@@ -47,7 +47,7 @@ loop-k-preserved c =
     let e = entry_test_lem bs k c.loop-k.first c.method-own.result.nodes c.loop-k.invariant.0 own in
     let h = sum_more bs k lt in
     let i = c.loop-k.invariant.0 in
-    (cc, below_more _ _ c.loop-k.invariant.1 (e ∙ sym c.if-not-has-entry.ensures))
+    (cc, below_more _ _ c.loop-k.invariant.1 (e ∙ sym c.if-not-has_entry.ensures))
 
 pub returns : goal.returns
 returns c =

@@ -1,4 +1,4 @@
-use Rattle.std.proofs.Common.{◌≡◌, ◌<◌, true, false, sym, refl, ap, ◌∙◌, arith, rules, below_none, below_more}
+use Rattle.std.proofs.Common.{◌<◌, sym, refl, ap, ◌∙◌, arith, below_more}
 use Rattle.std.proofs.lemmas.Bool.Decides.{nat_tests}
 use Rattle.model.specs.Program.{offset}
 use Rattle.recipe.specs.Bytes.{count_in}

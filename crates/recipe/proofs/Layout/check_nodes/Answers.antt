@@ -6,14 +6,14 @@ use Rattle.recipe.proofs.Firsts.{each_first, each_none}
 use Rattle.recipe.proofs.Scans.{node_test_lem}
 use Rattle.recipe.proofs.Layout.check_nodes.Goals as goal
 
-pub returns-then-not-node-fits : goal.returns-then-not-node-fits
-returns-then-not-node-fits c =
+pub returns-then-not-node_fits : goal.returns-then-not-node_fits
+returns-then-not-node_fits c =
     let bs = c.args.self.now.file.now in
     let n = c.loop-n.n in
     let lt : n < count_in bs 1 = omega arith in
     let at = c.seek-span.ensures in
     let e = node_test_lem bs c.seek-span.result n _ at.spans at.low at.high (ap (λ m. m.rights) c.method-rights.ensures) in
-    sym (each_first (node_test bs) BadNode (count_in bs 1) n lt c.loop-n.invariant.2 (e ∙ sym c.if-not-node-fits.ensures))
+    sym (each_first (node_test bs) BadNode (count_in bs 1) n lt c.loop-n.invariant.2 (e ∙ sym c.if-not-node_fits.ensures))
 
 pub loop-n-preserved : goal.loop-n-preserved
 loop-n-preserved c =
@@ -21,7 +21,7 @@ loop-n-preserved c =
     let n = c.loop-n.n in
     let at = c.seek-span.ensures in
     let e = node_test_lem bs c.seek-span.result n _ at.spans at.low at.high (ap (λ m. m.rights) c.method-rights.ensures) in
-    (at.spans, omega arith, below_more _ _ c.loop-n.invariant.2 (e ∙ sym c.if-not-node-fits.ensures))
+    (at.spans, omega arith, below_more _ _ c.loop-n.invariant.2 (e ∙ sym c.if-not-node_fits.ensures))
 
 pub returns : goal.returns
 returns c =

@@ -1,4 +1,4 @@
-use Rattle.std.proofs.Common.{◌≡◌, ℕ, ◌+◌, ◌<◌, sym, refl, ap, ◌∙◌, zero-add, arith}
+use Rattle.std.proofs.Common.{◌<◌, sym, refl, ap, ◌∙◌, zero-add, arith}
 use Rattle.model.specs.Program.{offset}
 use Rattle.recipe.specs.Bytes.{count_in}
 use Rattle.recipe.proofs.Scans.{sum_more}

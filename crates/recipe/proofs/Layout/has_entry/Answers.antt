@@ -4,10 +4,10 @@ use Rattle.recipe.specs.Bytes.{program_of}
 use Rattle.recipe.proofs.Layers.{any_below_from, any_below_none}
 use Rattle.recipe.proofs.Layout.has_entry.Goals as goal
 
-pub returns-then-node-at : goal.returns-then-node-at
-returns-then-node-at c =
+pub returns-then-node_at : goal.returns-then-node_at
+returns-then-node_at c =
     let p = program_of c.args.self.now.file.now in
-    sym (any_below_from c.args.many (λ j. (node_at p (c.args.first + j)).entry) c.loop-j.j (omega arith) (ap (λ n. n.entry) (sym c.node-at.ensures) ∙ c.if-node-at.true))
+    sym (any_below_from c.args.many (λ j. (node_at p (c.args.first + j)).entry) c.loop-j.j (omega arith) (ap (λ n. n.entry) (sym c.node_at.ensures) ∙ c.if-node_at.true))
 
 pub returns : goal.returns
 returns c =

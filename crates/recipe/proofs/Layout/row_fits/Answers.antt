@@ -1,8 +1,7 @@
-use Rattle.std.proofs.Common.{sym, ap, ◌∙◌, arith, below_more}
+use Rattle.std.proofs.Common.{sym, arith}
 use Rattle.std.proofs.lemmas.Bool.Decides.{nat_tests}
 use Rattle.recipe.specs.Offence.{row_test, cell_test}
 use Rattle.recipe.proofs.Layers.{all_below_from, all_below_fails}
-use Rattle.recipe.proofs.Places.{rows_place}
 use Rattle.recipe.proofs.Layout.row_fits.Goals as goal
 
 pub returns-then-cell-ne255 : goal.returns-then-cell-ne255

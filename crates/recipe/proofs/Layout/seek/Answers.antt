@@ -1,6 +1,5 @@
-use Rattle.std.proofs.Common.{◌≡◌, ℕ, ◌+◌, ◌<◌, sym, refl, ap, ◌∙◌, arith}
-use Rattle.model.specs.Program.{offset}
-use Rattle.recipe.specs.Bytes.{count_in, program_of}
+use Rattle.std.proofs.Common.{◌+◌, ◌<◌, ap, arith}
+use Rattle.recipe.specs.Bytes.{count_in}
 use Rattle.recipe.proofs.Scans.{sum_more}
 use Rattle.recipe.proofs.Layout.seek.Goals as goal
 

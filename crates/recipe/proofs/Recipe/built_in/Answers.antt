@@ -3,13 +3,13 @@ use Rattle.recipe.specs.Format.{bytes_of}
 use Rattle.recipe.proofs.Smallest.{smallest_small, smallest_checked}
 use Rattle.recipe.proofs.Recipe.built_in.Goals as goal
 
-pub invariant-of-result : goal.invariant-of-result
+pub invariant_of-result : goal.invariant_of-result
 unfolding bytes_of
-invariant-of-result c = (smallest_small, ((refl, refl), ((refl, refl), ((refl, refl), ((refl, refl), ((omega arith, omega arith), ((omega arith, omega arith), (omega arith, (omega arith, (refl, (refl, (refl, (refl, (refl, tt))))))))))))))
+invariant_of-result c = record { bytes = smallest_small; methods_told = (refl, refl); nodes_told = (refl, refl); edges_told = (refl, refl); rows_told = (refl, refl); methods_few = (omega arith, omega arith); nodes_few = (omega arith, omega arith); edges_few = omega arith; rows_few = omega arith; methods_laid = refl; nodes_laid = refl; edges_laid = refl; rows_laid = refl; whole = refl }
 
-pub invariant-of-result-2 : goal.invariant-of-result-2
+pub invariant_of-result-2 : goal.invariant_of-result-2
 unfolding bytes_of
-invariant-of-result-2 c = let k = smallest_checked in (k.methods, (k.nodes, (k.entries, (k.edges, (k.rows, tt)))))
+invariant_of-result-2 c = let k = smallest_checked in record { methods_pass = k.methods; nodes_pass = k.nodes; entries_pass = k.entries; edges_pass = k.edges; rows_pass = k.rows }
 
 pub returns : goal.returns
 unfolding bytes_of

@@ -1,4 +1,4 @@
-use Rattle.std.proofs.Common.{◌≡◌, ◌+◌, length, drop, None, sym, refl, ap, ◌∙◌, arith, rules}
+use Rattle.std.proofs.Common.{◌+◌, length, drop, None, sym, ap, arith}
 use Rattle.model.specs.Program.{counted_after}
 use Rattle.model.proofs.Edges.{scan_yes, scan_no, scan_end, counted_length}
 use Rattle.recipe.specs.Recipes.{program}

@@ -9,8 +9,8 @@ pub seek-span-requires : goal.seek-span-requires
 seek-span-requires c =
     let r = c.args.self.now in
     let n = nodes_count r in
-    let f = c.first-span.ensures.first in
-    record { sums = sums r; spans = c.first-span.ensures.spans; low = omega arith; within = omega arith }
+    let f = c.first_span.ensures.first in
+    record { sums = sums r; spans = c.first_span.ensures.spans; low = omega arith; within = omega arith }
 
 pub returns-then-n-nodes : goal.returns-then-n-nodes
 returns-then-n-nodes c =

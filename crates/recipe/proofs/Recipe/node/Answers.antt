@@ -1,4 +1,4 @@
-use Rattle.std.proofs.Common.{sym, ap, ◌∙◌, arith}
+use Rattle.std.proofs.Common.{sym, ◌∙◌, arith}
 use Rattle.std.proofs.lemmas.Option.{slice_get_past}
 use Rattle.recipe.proofs.Standing.{nodes_count, nth_node}
 use Rattle.recipe.proofs.Recipe.node.Goals as goal

@@ -1,4 +1,4 @@
-use Rattle.std.proofs.Common.{◌≡◌, ◌+◌, ◌≤◌, length, get_or, Some, sym, ap, ◌∙◌, arith, rules}
+use Rattle.std.proofs.Common.{◌+◌, length, get_or, Some, sym, ap, arith, rules}
 use Rattle.model.specs.Program.{no_edge}
 use Rattle.model.proofs.Edges.{scan_yes}
 use Rattle.recipe.specs.Recipes.{program}
@@ -10,18 +10,18 @@ use Rattle.recipe.proofs.Recipe.put_edges.Goals.{then-counts, else-counts}
 pub loop-e-init : goal.loop-e-init
 loop-e-init c = sofar_start (program c.args.self.now) c.args.edges.now c.args.at c.args.out.now
 
-pub edge-bytes-requires : goal.edge-bytes-requires
-edge-bytes-requires c = edge_small c.args.self.now c.loop-e.last _ (sym c.if-counts.ensures)
+pub edge_bytes-requires : goal.edge_bytes-requires
+edge_bytes-requires c = edge_small c.args.self.now c.loop-e.last _ (sym c.if-counts.ensures)
 
 pub put-requires : goal.put-requires
 put-requires c =
     let s = ap length (scan_yes (program c.args.self.now) c.loop-e.last c.args.edges.now c.loop-e.e-index c.loop-e-test.true (sym c.if-counts.ensures)) in
-    let b = ap length c.edge-bytes.ensures in
+    let b = ap length c.edge_bytes.ensures in
     let r = c.loop-e.invariant.room in
     omega arith
 
-pub overflow-add-place : goal.overflow-add-place
-overflow-add-place c =
+pub overflow_add-place : goal.overflow_add-place
+overflow_add-place c =
     let s = ap length (scan_yes (program c.args.self.now) c.loop-e.last c.args.edges.now c.loop-e.e-index c.loop-e-test.true (sym c.if-counts.ensures)) in
     let r = c.loop-e.invariant.room in
     search rules
@@ -40,7 +40,7 @@ loop-e-preserved c =
           let s = ap length (scan_yes p c.loop-e.last es i c.loop-e-test.true yes) in
           let r = c.loop-e.invariant.room in
           sofar_at p es at xs (place + 4) c.if-counts.place w.put.new.out c.if-counts.out (Some (get_or es i no_edge)) c.if-counts.last (i + 1) w.place-is w.out-is w.last-is
-          (sofar_yes p es at xs place c.loop-e.out c.loop-e.last i w.edge-bytes.result w.put.new.out c.loop-e.invariant c.loop-e-test.true yes w.edge-bytes.ensures (omega arith) w.put.ensures)
+          (sofar_yes p es at xs place c.loop-e.out c.loop-e.last i w.edge_bytes.result w.put.new.out c.loop-e.invariant c.loop-e-test.true yes w.edge_bytes.ensures (omega arith) w.put.ensures)
       | else-counts w ↦
           sofar_at p es at xs place c.if-counts.place c.loop-e.out c.if-counts.out c.loop-e.last c.if-counts.last (i + 1) w.place-is w.out-is w.last-is
           (sofar_no p es at xs place c.loop-e.out c.loop-e.last i c.loop-e.invariant c.loop-e-test.true (sym w.if-counts.ensures))

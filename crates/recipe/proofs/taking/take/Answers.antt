@@ -1,4 +1,4 @@
-use Rattle.std.proofs.Common.{◌≡◌, true, length, Some, None, Err, Option, sym, refl, ap, ◌∙◌, arith, rules}
+use Rattle.std.proofs.Common.{◌≡◌, length, Some, None, Err, Option, sym, refl, ap, ◌∙◌, arith, rules}
 use Rattle.std.proofs.lemmas.Result.{MatchResult-from_err}
 use Rattle.recipe.specs.declared.grounds.Refusal.TheVariants.{Misplaced}
 use Rattle.std.proofs.lemmas.Bool.{le-leb}
@@ -18,43 +18,58 @@ returns-then-file-lt16 c =
     let e : ◌≡◌ {A = Option Refusal} (Some (Misplaced 4)) (first_offence (take_tests bs)) = sym (offence_here _ _ _ (grind (arith, nat_tests))) in
     record { answer = e; filled = search rules; legal = legal_taken {T = Unit {0}} c.args.file.now (Err (Misplaced 4)) e }
 
-pub returns-in-err-check-counts : goal.returns-in-err-check-counts
-returns-in-err-check-counts c =
+pub returns-in_err-check_counts : goal.returns-in_err-check_counts
+returns-in_err-check_counts c =
     let bs = c.args.file.now in
-    let q : first_offence (count_tests (contents_in bs)) ≡ Some c.in-err-check-counts.field-0.0 = ap (λ x. first_offence (count_tests x)) (sym c.read-contents.ensures) ∙ sym c.in-err-check-counts.ensures in
-    let e = exit _ _ c.from-residual.ensures.1 ∙ sym (offence_past _ _ _ (le-leb 16 (length bs) (omega arith)) ∙ first_of_two _ _ _ q) in
+    let q : first_offence (count_tests (contents_in bs)) ≡ Some c.in_err-check_counts.field-0.0 = ap (λ x. first_offence (count_tests x)) (sym c.read-contents.ensures) ∙ sym c.in_err-check_counts.ensures in
+    let e = exit _ _ c.from_residual.ensures.1 ∙ sym (offence_past _ _ _ (le-leb 16 (length bs) (omega arith)) ∙ first_of_two _ _ _ q) in
     record {
       answer = e;
-      filled = MatchResult-from_err _ _ _ c.from-residual.ensures.0 (λ y. refl);
+      filled = MatchResult-from_err _ _ _ c.from_residual.ensures.0 (λ y. refl);
       legal = legal_taken bs _ e;
     }
 
-pub returns-in-err-check-places : goal.returns-in-err-check-places
-returns-in-err-check-places c =
+pub returns-in_err-check_places : goal.returns-in_err-check_places
+returns-in_err-check_places c =
     let bs = c.args.file.now in
     let here = c.read-contents.ensures in
-    let q : first_offence (count_tests (contents_in bs)) ≡ None = ap (λ x. first_offence (count_tests x)) (sym here) ∙ sym c.in-ok-check-counts.ensures in
-    let r : first_offence (place_tests (contents_in bs) (length bs)) ≡ Some c.in-err-check-places.field-0.0 = ap (λ x. first_offence (place_tests x (length bs))) (sym here) ∙ sym c.in-err-check-places.ensures in
-    let e = exit _ _ c.from-residual-in-err-check-places.ensures.1 ∙ sym (offence_past _ _ _ (le-leb 16 (length bs) (omega arith)) ∙ second_of_two _ _ q ∙ r) in
+    let q : first_offence (count_tests (contents_in bs)) ≡ None = ap (λ x. first_offence (count_tests x)) (sym here) ∙ sym c.in_ok-check_counts.ensures in
+    let r : first_offence (place_tests (contents_in bs) (length bs)) ≡ Some c.in_err-check_places.field-0.0 = ap (λ x. first_offence (place_tests x (length bs))) (sym here) ∙ sym c.in_err-check_places.ensures in
+    let e = exit _ _ c.from_residual-in_err-check_places.ensures.1 ∙ sym (offence_past _ _ _ (le-leb 16 (length bs) (omega arith)) ∙ second_of_two _ _ q ∙ r) in
     record {
       answer = e;
-      filled = MatchResult-from_err _ _ _ c.from-residual-in-err-check-places.ensures.0 (λ y. refl);
+      filled = MatchResult-from_err _ _ _ c.from_residual-in_err-check_places.ensures.0 (λ y. refl);
       legal = legal_taken bs _ e;
     }
 
-pub invariant-of-draft : goal.invariant-of-draft
-invariant-of-draft c =
-    let n = counts_right c.read-contents.result (sym c.in-ok-check-counts.ensures) in
-    let a = places_right c.read-contents.result (length c.args.file.now) (sym c.in-ok-check-places.ensures) in
+pub invariant_of-draft : goal.invariant_of-draft
+invariant_of-draft c =
+    let n = counts_right c.read-contents.result (sym c.in_ok-check_counts.ensures) in
+    let a = places_right c.read-contents.result (length c.args.file.now) (sym c.in_ok-check_places.ensures) in
     let here = c.read-contents.ensures in
-    (λ i. omega (arith, c.type-inv.file i), ((ap (λ k. k.methods.place) here, ap (λ k. k.methods.count) here), ((ap (λ k. k.nodes.place) here, ap (λ k. k.nodes.count) here), ((ap (λ k. k.edges.place) here, ap (λ k. k.edges.count) here), ((ap (λ k. k.rows.place) here, ap (λ k. k.rows.count) here), ((n.some_methods, n.few_methods), ((n.some_nodes, n.few_nodes), (n.few_edges, (n.few_rows, (a.methods, (omega arith, (a.edges, (a.rows, (a.end, tt))))))))))))))
+    record {
+      bytes = λ i. omega (arith, c.type_inv.file i);
+      methods_told = (ap (λ k. k.methods.place) here, ap (λ k. k.methods.count) here);
+      nodes_told = (ap (λ k. k.nodes.place) here, ap (λ k. k.nodes.count) here);
+      edges_told = (ap (λ k. k.edges.place) here, ap (λ k. k.edges.count) here);
+      rows_told = (ap (λ k. k.rows.place) here, ap (λ k. k.rows.count) here);
+      methods_few = (n.some_methods, n.few_methods);
+      nodes_few = (n.some_nodes, n.few_nodes);
+      edges_few = n.few_edges;
+      rows_few = n.few_rows;
+      methods_laid = a.methods;
+      nodes_laid = omega arith;
+      edges_laid = a.edges;
+      rows_laid = a.rows;
+      whole = a.end;
+    }
 
 pub returns : goal.returns
 returns c =
     let bs = c.args.file.now in
     let here = c.read-contents.ensures in
-    let q : first_offence (count_tests (contents_in bs)) ≡ None = ap (λ x. first_offence (count_tests x)) (sym here) ∙ sym c.in-ok-check-counts.ensures in
-    let r : first_offence (place_tests (contents_in bs) (length bs)) ≡ None = ap (λ x. first_offence (place_tests x (length bs))) (sym here) ∙ sym c.in-ok-check-places.ensures in
+    let q : first_offence (count_tests (contents_in bs)) ≡ None = ap (λ x. first_offence (count_tests x)) (sym here) ∙ sym c.in_ok-check_counts.ensures in
+    let r : first_offence (place_tests (contents_in bs) (length bs)) ≡ None = ap (λ x. first_offence (place_tests x (length bs))) (sym here) ∙ sym c.in_ok-check_places.ensures in
     record {
       answer = sym (offence_past _ _ _ (le-leb 16 (length bs) (omega arith)) ∙ second_of_two _ _ q ∙ r);
       filled = search rules;

@@ -8,12 +8,12 @@ use Rattle.walker.proofs.leading.leads.Goals as goal
 use Rattle.walker.proofs.leading.leads.Goals.{then-counts+else-joins, else-counts}
 
 pub loop-e-init : goal.loop-e-init
-loop-e-init c = ap (λ es. leads (counted (program c.args.recipe.now) es) c.args.from c.args.to) (sym c.first-places-e-items.ensures.value)
+loop-e-init c = ap (λ es. leads (counted (program c.args.recipe.now) es) c.args.from c.args.to) (sym c.first_places-e-items.ensures.value)
 
 pub returns-then-joins : goal.returns-then-joins
 returns-then-joins c =
     let p = program c.args.recipe.now in
-    let es = c.first-places-e-items.result.now in
+    let es = c.first_places-e-items.result.now in
     let i = c.loop-e.e-index in
     sym (c.loop-e.invariant ∙ ap (λ l. leads l c.args.from c.args.to) (scan_yes p c.loop-e.last es i c.loop-e-test.true (sym c.if-counts.ensures))
     ∙ leads_here (get_or es i no_edge) (counted_after p (Some (get_or es i no_edge)) (drop (i + 1) es)) c.args.from c.args.to (sym c.if-joins.ensures))
@@ -21,7 +21,7 @@ returns-then-joins c =
 pub loop-e-preserved : goal.loop-e-preserved
 loop-e-preserved c =
     let p = program c.args.recipe.now in
-    let es = c.first-places-e-items.result.now in
+    let es = c.first_places-e-items.result.now in
     let i = c.loop-e.e-index in
     let a = c.args.from in
     let b = c.args.to in
@@ -38,5 +38,5 @@ loop-e-preserved c =
 pub returns : goal.returns
 returns c =
     let p = program c.args.recipe.now in
-    let es = c.first-places-e-items.result.now in
+    let es = c.first_places-e-items.result.now in
     sym (c.loop-e.invariant ∙ ap (λ l. leads l c.args.from c.args.to) (scan_end p c.loop-e.last es c.loop-e.e-index c.loop-e-test.false) ∙ leads_none c.args.from c.args.to)

@@ -26,24 +26,24 @@ returns-then-nodes-eq0 g c =
       accepts = accepts_so p es R W ns c.args.stack.now (Err (NotAStep 0)) c.args.stack.now answer frames;
     }
 
-pub returns-in-err-at : goal.returns-in-err-at
-returns-in-err-at g c =
+pub returns-in_err-at : goal.returns-in_err-at
+returns-in_err-at g c =
     let p = program c.args.recipe.now in
     let es = listed_edges p c.args.edges.now in
     let R = g.R.AccessRule.meaning c.args.rule.now p in
     let W = g.W.Watch.watching c.args.watch.now in
     let ns = c.args.nodes.now in
-    let e = err_from_is_err_and c.from-residual.result c.from-residual.ensures.1 in
+    let e = err_from_is_err_and c.from_residual.result c.from_residual.ensures.1 in
     let whole = replayed_some p es R W ns c.args.stack.now (omega arith)
-    ∙ ap (replay_from p es R W (drop 1 ns) 1) (walk (sym c.start.ensures.answer ∙ c.in-err-at.was) (sym c.start.ensures.frames))
-    ∙ replay_refused p es R W (drop 1 ns) 1 c.in-err-at.field-0.0 c.start.new.stack in
+    ∙ ap (replay_from p es R W (drop 1 ns) 1) (walk (sym c.start.ensures.answer ∙ c.in_err-at.was) (sym c.start.ensures.frames))
+    ∙ replay_refused p es R W (drop 1 ns) 1 c.in_err-at.field-0.0 c.start.new.stack in
     let answer = e.1 ∙ ap Err e.2 ∙ sym (ap (λ w. w.at) whole) in
     let frames = sym (ap (λ w. w.stack) whole) in
     record {
       answer = answer;
       frames = frames;
-      told = told_so p es R W ns c.args.stack.now c.from-residual.result c.start.new.stack answer frames;
-      accepts = accepts_so p es R W ns c.args.stack.now c.from-residual.result c.start.new.stack answer frames;
+      told = told_so p es R W ns c.args.stack.now c.from_residual.result c.start.new.stack answer frames;
+      accepts = accepts_so p es R W ns c.args.stack.now c.from_residual.result c.start.new.stack answer frames;
     }
 
 pub returns-in-Err : goal.returns-in-Err
@@ -58,7 +58,7 @@ returns-in-Err g c =
     let s = step_from p es R c.loop-i.stack c.loop-i.at.depth m in
     let a = answer_refused p W (length c.loop-i.stack) c.loop-i.at.state m i s c.in-Err.refusal (sym c.go.ensures.answer ∙ c.in-Err.is) in
     let whole = replayed_some p es R W ns c.args.stack.now (omega arith)
-    ∙ ap (replay_from p es R W (drop 1 ns) 1) (walk (sym c.start.ensures.answer ∙ c.in-ok-at.was) (sym c.start.ensures.frames))
+    ∙ ap (replay_from p es R W (drop 1 ns) 1) (walk (sym c.start.ensures.answer ∙ c.in_ok-at.was) (sym c.start.ensures.frames))
     ∙ sym c.loop-i.invariant ∙ replay_more p es R W ns i (record { at = Ok c.loop-i.at; stack = c.loop-i.stack }) c.loop-i-test.true
     ∙ ap (replay_from p es R W (drop (i + 1) ns) (i + 1)) (walk a (sym c.go.ensures.frames))
     ∙ replay_refused p es R W (drop (i + 1) ns) (i + 1) _ c.go.new.stack in
@@ -93,7 +93,7 @@ returns g c =
     let W = g.W.Watch.watching c.args.watch.now in
     let ns = c.args.nodes.now in
     let whole = replayed_some p es R W ns c.args.stack.now (omega arith)
-    ∙ ap (replay_from p es R W (drop 1 ns) 1) (walk (sym c.start.ensures.answer ∙ c.in-ok-at.was) (sym c.start.ensures.frames))
+    ∙ ap (replay_from p es R W (drop 1 ns) 1) (walk (sym c.start.ensures.answer ∙ c.in_ok-at.was) (sym c.start.ensures.frames))
     ∙ sym c.loop-i.invariant ∙ replay_end p es R W ns c.loop-i.i (record { at = Ok c.loop-i.at; stack = c.loop-i.stack }) c.loop-i-test.false in
     let answer = sym (ap (λ w. w.at) whole) in
     let frames = sym (ap (λ w. w.stack) whole) in

@@ -16,9 +16,9 @@ returns-then-cell-eq255 c =
     let n = c.rows-rows.ensures in
     let state : q ≤ length rows = omega arith in
     let few : mark < 32 = omega arith in
-    let is = c.unwrap-or-cell.ensures ∙ ap (λ o. unwrap_or o 255) c.cell.ensures in
+    let is = c.unwrap_or-cell.ensures ∙ ap (λ o. unwrap_or o 255) c.cell.ensures in
     let got = ap (leads (length rows)) is in
-    let here : leads (length rows) c.unwrap-or-cell.result ≡ length rows = cond-true _ (length rows) _ (eq-eqb _ 255 c.if-cell-eq255.true) in
+    let here : leads (length rows) c.unwrap_or-cell.result ≡ length rows = cond-true _ (length rows) _ (eq-eqb _ 255 c.if-cell-eq255.true) in
     let asked : asks_step (length rows + 1) q mark ≡ true = grind (arith, nat_tests) in
     let b = cell_below r q mark state few in
     record {
@@ -36,9 +36,9 @@ returns-else-cell-eq255 c =
     let n = c.rows-rows.ensures in
     let state : q ≤ length rows = omega arith in
     let few : mark < 32 = omega arith in
-    let is = c.unwrap-or-cell.ensures ∙ ap (λ o. unwrap_or o 255) c.cell.ensures in
+    let is = c.unwrap_or-cell.ensures ∙ ap (λ o. unwrap_or o 255) c.cell.ensures in
     let got = ap (leads (length rows)) is in
-    let here : leads (length rows) c.unwrap-or-cell.result ≡ c.unwrap-or-cell.result = cond-false _ (length rows) _ (ne_eqb _ 255 c.if-cell-eq255.false) in
+    let here : leads (length rows) c.unwrap_or-cell.result ≡ c.unwrap_or-cell.result = cond-false _ (length rows) _ (ne_eqb _ 255 c.if-cell-eq255.false) in
     let asked : asks_step (length rows + 1) q mark ≡ true = grind (arith, nat_tests) in
     let b = cell_below r q mark state few in
     record {
