@@ -13,7 +13,7 @@ use rules::Watch;
 impl Inquiry<'_> {
     // Whether a held fact is bad.
     fn any_bad<W: Watch>(&self, watch: &W) -> bool
-        ensures { result ≡ any_bad (watching watch.now) (state_of self.now).rows }
+        ensures { result ≡ any_bad (W.watching watch.now) (state_of self.now).rows }
     {
         for i in 0..self.held {
             if watch.bad(self.facts[i].state) {
@@ -25,7 +25,7 @@ impl Inquiry<'_> {
 
     // What the facts that are held say.
     fn judge<W: Watch>(&self, watch: &W) -> Verdict
-        ensures { result ≡ verdict_of (watching watch.now) (state_of self.now) }
+        ensures { result ≡ verdict_of (W.watching watch.now) (state_of self.now) }
     {
         if self.any_bad(watch) {
             Verdict::Unsafe
@@ -40,8 +40,8 @@ impl Inquiry<'_> {
 
     // Unsafe if a held fact is bad; else full if a new fact found no place; else safe if all facts are worked.
     pub fn verdict<W: Watch>(&self, watch: &W) -> Result<Verdict, Refusal>
-        ensures answer { result ≡ answered self.now.refusal (verdict_of (watching watch.now) (state_of self.now)) }
-        ensures right { IfOk result (Right (watching watch.now) self.now) }
+        ensures answer { result ≡ answered self.now.refusal (verdict_of (W.watching watch.now) (state_of self.now)) }
+        ensures right { IfOk result (Right (W.watching watch.now) self.now) }
     {
         match self.refusal {
             Some(refusal) => Err(refusal),
@@ -51,7 +51,7 @@ impl Inquiry<'_> {
 
     // What the inquiry comes to: its verdict, and how many facts are held and worked.
     fn report<W: Watch>(&self, watch: &W) -> Result<Report, Refusal>
-        ensures { result ≡ answered self.now.refusal (report_of (watching watch.now) (state_of self.now)) }
+        ensures { result ≡ answered self.now.refusal (report_of (W.watching watch.now) (state_of self.now)) }
     {
         let verdict = self.verdict(watch)?;
         Ok(Report {
@@ -63,8 +63,8 @@ impl Inquiry<'_> {
 
     // Ends the inquiry, and answers what it came to. The fact table stays as it is.
     pub fn close<W: Watch>(self, watch: &W) -> Result<Report, Refusal>
-        ensures answer { result ≡ answered self.entry.refusal (report_of (watching watch.now) (state_of self.entry)) }
-        ensures right { IfOk result (λ report. Right (watching watch.now) self.entry report.verdict) }
+        ensures answer { result ≡ answered self.entry.refusal (report_of (W.watching watch.now) (state_of self.entry)) }
+        ensures right { IfOk result (λ report. Right (W.watching watch.now) self.entry report.verdict) }
         ensures table { self.exit.0.now ≡ self.entry.facts.now }
     {
         let answer = self.report(watch);

@@ -32,7 +32,7 @@ impl Inquiry<'_> {
         watch: &W,
         edges: &[Edge],
     ) -> Option<Refusal>
-        ensures { result ≡ dig_refusal self.now (setting_of (meaning rule.now) (watching watch.now) recipe.now edges.now) (length edges.now) }
+        ensures { result ≡ dig_refusal self.now (setting_of (R.meaning rule.now) (W.watching watch.now) recipe.now edges.now) (length edges.now) }
     {
         if let Some(refusal) = self.refusal {
             return Some(refusal);
@@ -61,10 +61,10 @@ impl Inquiry<'_> {
         edges: &[Edge],
         allowed: u32,
     ) -> Result<Dug, Refusal>
-        ensures answer { result ≡ answered (dig_refusal self.old (setting_of (meaning rule.now) (watching watch.now) recipe.now (in_use self.old edges.now)) (length edges.now)) (dug_from (state_of self.old) (dug (setting_of (meaning rule.now) (watching watch.now) recipe.now (in_use self.old edges.now)) self.old.places allowed (state_of self.old))) }
-        ensures state { state_of self.new ≡ unless (dig_refusal self.old (setting_of (meaning rule.now) (watching watch.now) recipe.now (in_use self.old edges.now)) (length edges.now)) (dug (setting_of (meaning rule.now) (watching watch.now) recipe.now (in_use self.old edges.now)) self.old.places allowed (state_of self.old)) (state_of self.old) }
+        ensures answer { result ≡ answered (dig_refusal self.old (setting_of (R.meaning rule.now) (W.watching watch.now) recipe.now (in_use self.old edges.now)) (length edges.now)) (dug_from (state_of self.old) (dug (setting_of (R.meaning rule.now) (W.watching watch.now) recipe.now (in_use self.old edges.now)) self.old.places allowed (state_of self.old))) }
+        ensures state { state_of self.new ≡ unless (dig_refusal self.old (setting_of (R.meaning rule.now) (W.watching watch.now) recipe.now (in_use self.old edges.now)) (length edges.now)) (dug (setting_of (R.meaning rule.now) (W.watching watch.now) recipe.now (in_use self.old edges.now)) self.old.places allowed (state_of self.old)) (state_of self.old) }
         ensures grown { Grown self.old self.new }
-        ensures sound { Sound (setting_of (meaning rule.now) (watching watch.now) recipe.now (in_use self.old edges.now)) self.old.places (state_of self.old) → Sound (setting_of (meaning rule.now) (watching watch.now) recipe.now (in_use self.old edges.now)) self.old.places (state_of self.new) }
+        ensures sound { Sound (setting_of (R.meaning rule.now) (W.watching watch.now) recipe.now (in_use self.old edges.now)) self.old.places (state_of self.old) → Sound (setting_of (R.meaning rule.now) (W.watching watch.now) recipe.now (in_use self.old edges.now)) self.old.places (state_of self.new) }
     {
         if let Some(refusal) = self.bars(recipe, rule, watch, edges) {
             return Err(refusal);

@@ -34,7 +34,7 @@ pub fn fit<R: AccessRule, W: Watch>(
     facts: &[Fact],
     edges: &[Edge],
 ) -> Result<(), Refusal>
-    ensures { result ≡ allowed_by (fit_refusal (meaning rule.now (program recipe.now)).values (watching watch.now).states (length (own_edges recipe.now)) (length facts.now) (length edges.now)) }
+    ensures { result ≡ allowed_by (fit_refusal (R.meaning rule.now (program recipe.now)).values (W.watching watch.now).states (length (own_edges recipe.now)) (length facts.now) (length edges.now)) }
 {
     match unfit(recipe, rule, watch, facts.len(), edges.len()) {
         None => Ok(()),
@@ -50,7 +50,7 @@ pub(crate) fn unfit<R: AccessRule, W: Watch>(
     facts: usize,
     edges: usize,
 ) -> Option<Refusal>
-    ensures { result ≡ fit_refusal (meaning rule.now (program recipe.now)).values (watching watch.now).states (length (own_edges recipe.now)) facts edges }
+    ensures { result ≡ fit_refusal (R.meaning rule.now (program recipe.now)).values (W.watching watch.now).states (length (own_edges recipe.now)) facts edges }
 {
     if !counts_fit(rule.values(recipe), watch.states()) {
         return Some(Refusal::TooMany);

@@ -33,7 +33,7 @@ impl<R: AccessRule, W: Watch> Scene<'_, '_, '_, '_, '_, R, W> {
 
     // Whether a call fact and a return fact go together: the call gives the start of the other.
     fn joins(&self, call: Fact, back: Fact) -> bool
-        ensures { result ≡ joins (scene_of meaning watching self.now) call back }
+        ensures { result ≡ joins (scene_of R.meaning W.watching self.now) call back }
     {
         let Kind::Call { callee, .. } = self.recipe.node_at(call.node).kind else {
             return false;
@@ -57,7 +57,7 @@ impl Inquiry<'_> {
         call: Placed,
     ) -> Option<usize>
         requires { call.at ≤ self.now.held }
-        ensures { FirstFrom (λ j. joins (scene_of meaning watching scene.now) call.fact (row_at self.now.facts.now j)) from call.at result }
+        ensures { FirstFrom (λ j. joins (scene_of R.meaning W.watching scene.now) call.fact (row_at self.now.facts.now j)) from call.at result }
     {
         for j in from..call.at {
             if scene.joins(call.fact, self.facts[j]) {
@@ -75,7 +75,7 @@ impl Inquiry<'_> {
         back: Placed,
     ) -> Option<usize>
         requires { back.at ≤ self.now.held }
-        ensures { FirstFrom (λ j. joins (scene_of meaning watching scene.now) (row_at self.now.facts.now j) back.fact) from back.at result }
+        ensures { FirstFrom (λ j. joins (scene_of R.meaning W.watching scene.now) (row_at self.now.facts.now j) back.fact) from back.at result }
     {
         for j in from..back.at {
             if scene.joins(self.facts[j], back.fact) {

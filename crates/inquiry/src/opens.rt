@@ -34,7 +34,7 @@ impl<'t> Inquiry<'t> {
         watch: &W,
         edges: &[Edge],
     )
-        ensures state { state_of self.new ≡ offer_all self.old.places (state_of self.old) (firsts (setting_of (meaning rule.now) (watching watch.now) recipe.now (own_edges recipe.now))) }
+        ensures state { state_of self.new ≡ offer_all self.old.places (state_of self.old) (firsts (setting_of (R.meaning rule.now) (W.watching watch.now) recipe.now (own_edges recipe.now))) }
         ensures grown { Grown self.old self.new }
     {
         let scene = Scene {
@@ -54,14 +54,14 @@ impl<'t> Inquiry<'t> {
         facts: &'t mut [Fact],
         edges: &mut [Edge],
     ) -> Inquiry<'t>
-        ensures refusal { result.refusal ≡ (fit_refusal (meaning rule.now (program recipe.now)).values (watching watch.now).states (length (own_edges recipe.now)) (length facts.old) (length edges.old)) }
-        ensures opening { result.opening ≡ opening_of (fit_refusal (meaning rule.now (program recipe.now)).values (watching watch.now).states (length (own_edges recipe.now)) (length facts.old) (length edges.old)) (setting_of (meaning rule.now) (watching watch.now) recipe.now (own_edges recipe.now)) (length (own_edges recipe.now)) (length edges.old) }
-        ensures places { result.places ≡ unless (fit_refusal (meaning rule.now (program recipe.now)).values (watching watch.now).states (length (own_edges recipe.now)) (length facts.old) (length edges.old)) (length facts.old) 0 }
-        ensures state { state_of result ≡ unless (fit_refusal (meaning rule.now (program recipe.now)).values (watching watch.now).states (length (own_edges recipe.now)) (length facts.old) (length edges.old)) (opened (setting_of (meaning rule.now) (watching watch.now) recipe.now (own_edges recipe.now)) (length facts.old)) empty }
+        ensures refusal { result.refusal ≡ (fit_refusal (R.meaning rule.now (program recipe.now)).values (W.watching watch.now).states (length (own_edges recipe.now)) (length facts.old) (length edges.old)) }
+        ensures opening { result.opening ≡ opening_of (fit_refusal (R.meaning rule.now (program recipe.now)).values (W.watching watch.now).states (length (own_edges recipe.now)) (length facts.old) (length edges.old)) (setting_of (R.meaning rule.now) (W.watching watch.now) recipe.now (own_edges recipe.now)) (length (own_edges recipe.now)) (length edges.old) }
+        ensures places { result.places ≡ unless (fit_refusal (R.meaning rule.now (program recipe.now)).values (W.watching watch.now).states (length (own_edges recipe.now)) (length facts.old) (length edges.old)) (length facts.old) 0 }
+        ensures state { state_of result ≡ unless (fit_refusal (R.meaning rule.now (program recipe.now)).values (W.watching watch.now).states (length (own_edges recipe.now)) (length facts.old) (length edges.old)) (opened (setting_of (R.meaning rule.now) (W.watching watch.now) recipe.now (own_edges recipe.now)) (length facts.old)) empty }
         ensures same { result.facts.ghost_name ≡ facts.entry.ghost_name }
         ensures rest { drop result.held result.facts.now ≡ drop result.held facts.old }
-        ensures edges { edges.new ≡ unless (fit_refusal (meaning rule.now (program recipe.now)).values (watching watch.now).states (length (own_edges recipe.now)) (length facts.old) (length edges.old)) (own_edges recipe.now ++ drop (length (own_edges recipe.now)) edges.old) edges.old }
-        ensures sound { None ≡ (fit_refusal (meaning rule.now (program recipe.now)).values (watching watch.now).states (length (own_edges recipe.now)) (length facts.old) (length edges.old)) → Sound (setting_of (meaning rule.now) (watching watch.now) recipe.now (own_edges recipe.now)) (length facts.old) (state_of result) }
+        ensures edges { edges.new ≡ unless (fit_refusal (R.meaning rule.now (program recipe.now)).values (W.watching watch.now).states (length (own_edges recipe.now)) (length facts.old) (length edges.old)) (own_edges recipe.now ++ drop (length (own_edges recipe.now)) edges.old) edges.old }
+        ensures sound { None ≡ (fit_refusal (R.meaning rule.now (program recipe.now)).values (W.watching watch.now).states (length (own_edges recipe.now)) (length facts.old) (length edges.old)) → Sound (setting_of (R.meaning rule.now) (W.watching watch.now) recipe.now (own_edges recipe.now)) (length facts.old) (state_of result) }
     {
         let refusal = unfit(recipe, rule, watch, facts.len(), edges.len());
         let opening = Opening {

@@ -12,14 +12,14 @@ use rules::{AccessRule, Watch};
 impl<R: AccessRule, W: Watch> Scene<'_, '_, '_, '_, '_, R, W> {
     // The watch's state after a node that is come to.
     pub(crate) fn step_to(&self, state: u32, node: u32) -> u32
-        ensures { result ≡ step_to (scene_of meaning watching self.now) state node }
+        ensures { result ≡ step_to (scene_of R.meaning W.watching self.now) state node }
     {
         self.watch.step(state, self.recipe.node_at(node).mark)
     }
 
     // Rule 1: an entry of main.
     pub(crate) fn first_row(&self, entry: u32) -> Fact
-        ensures { result ≡ first_row (scene_of meaning watching self.now) entry }
+        ensures { result ≡ first_row (scene_of R.meaning W.watching self.now) entry }
     {
         let value = self.rule.first(self.recipe, entry);
         let state = self.step_to(self.watch.start(), entry);
@@ -40,7 +40,7 @@ impl<R: AccessRule, W: Watch> Scene<'_, '_, '_, '_, '_, R, W> {
     // Rule 2: along an edge, with the same value.
     pub(crate) fn follow_row(&self, from: Placed, to: u32) -> Fact
         requires { from.at < 65536 }
-        ensures { result ≡ follow_row (scene_of meaning watching self.now) from.at from.fact to }
+        ensures { result ≡ follow_row (scene_of R.meaning W.watching self.now) from.at from.fact to }
     {
         Fact {
             node: to,
@@ -56,7 +56,7 @@ impl<R: AccessRule, W: Watch> Scene<'_, '_, '_, '_, '_, R, W> {
     // Rule 3: from a call into an entry of its callee.
     pub(crate) fn enter_row(&self, call: Placed, entry: u32) -> Fact
         requires { call.at < 65536 }
-        ensures { result ≡ enter_row (scene_of meaning watching self.now) call.at call.fact entry }
+        ensures { result ≡ enter_row (scene_of R.meaning W.watching self.now) call.at call.fact entry }
     {
         let value = self
             .rule
@@ -79,7 +79,7 @@ impl<R: AccessRule, W: Watch> Scene<'_, '_, '_, '_, '_, R, W> {
     // Rule 4: from a call whose callee returned, along an edge of the call.
     pub(crate) fn back_row(&self, call: Placed, back: Placed, to: u32) -> Fact
         requires { (call.at < 65536) × (back.at < 65536) }
-        ensures { result ≡ back_row (scene_of meaning watching self.now) call.at call.fact back.at back.fact to }
+        ensures { result ≡ back_row (scene_of R.meaning W.watching self.now) call.at call.fact back.at back.fact to }
     {
         let value = self.rule.back(
             self.recipe,

@@ -14,7 +14,7 @@ impl Inquiry<'_> {
     // Rule 2: along each edge of a fact's node.
     fn follow<R: AccessRule, W: Watch>(&mut self, scene: &Scene<R, W>, from: Placed)
         requires { from.at < 65536 }
-        ensures state { state_of self.new ≡ offer_all self.old.places (state_of self.old) (follows (scene_of meaning watching scene.now) from.at from.fact) }
+        ensures state { state_of self.new ≡ offer_all self.old.places (state_of self.old) (follows (scene_of R.meaning W.watching scene.now) from.at from.fact) }
         ensures grown { Grown self.old self.new }
     {
         let mut cursor = Cursor::START;
@@ -27,7 +27,7 @@ impl Inquiry<'_> {
     // Rule 3: into each entry of the callee.
     fn enter<R: AccessRule, W: Watch>(&mut self, scene: &Scene<R, W>, call: Placed, callee: u32)
         requires { call.at < 65536 }
-        ensures state { state_of self.new ≡ offer_all self.old.places (state_of self.old) (enters (scene_of meaning watching scene.now) callee call.at call.fact) }
+        ensures state { state_of self.new ≡ offer_all self.old.places (state_of self.old) (enters (scene_of R.meaning W.watching scene.now) callee call.at call.fact) }
         ensures grown { Grown self.old self.new }
     {
         for node in 0..scene.recipe.nodes() {
@@ -45,7 +45,7 @@ impl Inquiry<'_> {
         back: Placed,
     )
         requires { (call.at < 65536) × (back.at < 65536) }
-        ensures state { state_of self.new ≡ offer_all self.old.places (state_of self.old) (backs (scene_of meaning watching scene.now) call.at call.fact back.at back.fact) }
+        ensures state { state_of self.new ≡ offer_all self.old.places (state_of self.old) (backs (scene_of R.meaning W.watching scene.now) call.at call.fact back.at back.fact) }
         ensures grown { Grown self.old self.new }
     {
         let mut cursor = Cursor::START;
@@ -58,7 +58,7 @@ impl Inquiry<'_> {
     // Rule 4 at a call: with each earlier return fact that goes together with it.
     fn join_returns<R: AccessRule, W: Watch>(&mut self, scene: &Scene<R, W>, call: Placed)
         requires { call.at < self.old.held }
-        ensures state { state_of self.new ≡ offer_all self.old.places (state_of self.old) (each_from 0 call.at (return_at (scene_of meaning watching scene.now) (state_of self.old).rows call.at call.fact)) }
+        ensures state { state_of self.new ≡ offer_all self.old.places (state_of self.old) (each_from 0 call.at (return_at (scene_of R.meaning W.watching scene.now) (state_of self.old).rows call.at call.fact)) }
         ensures grown { Grown self.old self.new }
     {
         let mut from = 0;
@@ -72,7 +72,7 @@ impl Inquiry<'_> {
     // Rule 4 at a return: with each earlier call fact that goes together with it.
     fn join_calls<R: AccessRule, W: Watch>(&mut self, scene: &Scene<R, W>, back: Placed)
         requires { back.at < self.old.held }
-        ensures state { state_of self.new ≡ offer_all self.old.places (state_of self.old) (each_from 0 back.at (call_at (scene_of meaning watching scene.now) (state_of self.old).rows back.at back.fact)) }
+        ensures state { state_of self.new ≡ offer_all self.old.places (state_of self.old) (each_from 0 back.at (call_at (scene_of R.meaning W.watching scene.now) (state_of self.old).rows back.at back.fact)) }
         ensures grown { Grown self.old self.new }
     {
         let mut from = 0;
@@ -86,7 +86,7 @@ impl Inquiry<'_> {
     // Offers what the rules make of a fact, as its node's kind has it.
     fn apply<R: AccessRule, W: Watch>(&mut self, scene: &Scene<R, W>, own: Placed)
         requires { own.at < self.old.held }
-        ensures state { state_of self.new ≡ offer_all self.old.places (state_of self.old) (offers_by (scene_of meaning watching scene.now) (state_of self.old).rows own.at own.fact (kind_at (scene_of meaning watching scene.now) (end_of own.fact))) }
+        ensures state { state_of self.new ≡ offer_all self.old.places (state_of self.old) (offers_by (scene_of R.meaning W.watching scene.now) (state_of self.old).rows own.at own.fact (kind_at (scene_of R.meaning W.watching scene.now) (end_of own.fact))) }
         ensures grown { Grown self.old self.new }
     {
         match scene.recipe.node_at(own.fact.node).kind {
@@ -107,7 +107,7 @@ impl Inquiry<'_> {
     // Works the first unworked fact, and counts it as worked unless the table turned full.
     pub(crate) fn work<R: AccessRule, W: Watch>(&mut self, scene: &Scene<R, W>)
         requires { self.old.worked < self.old.held }
-        ensures state { state_of self.new ≡ work (scene_of meaning watching scene.now) self.old.places (state_of self.old) }
+        ensures state { state_of self.new ≡ work (scene_of R.meaning W.watching scene.now) self.old.places (state_of self.old) }
         ensures grown { Grown self.old self.new }
     {
         let at = self.worked;
@@ -120,7 +120,7 @@ impl Inquiry<'_> {
 
     // Works up to so many facts, in table order.
     pub(crate) fn work_up_to<R: AccessRule, W: Watch>(&mut self, scene: &Scene<R, W>, allowed: u32)
-        ensures state { state_of self.new ≡ dug (scene_of meaning watching scene.now) self.old.places allowed (state_of self.old) }
+        ensures state { state_of self.new ≡ dug (scene_of R.meaning W.watching scene.now) self.old.places allowed (state_of self.old) }
         ensures grown { Grown self.old self.new }
     {
         for _turn in 0..allowed {
@@ -133,7 +133,7 @@ impl Inquiry<'_> {
 
     // Rule 1: each entry of main.
     pub(crate) fn begin<R: AccessRule, W: Watch>(&mut self, scene: &Scene<R, W>)
-        ensures state { state_of self.new ≡ offer_all self.old.places (state_of self.old) (firsts (scene_of meaning watching scene.now)) }
+        ensures state { state_of self.new ≡ offer_all self.old.places (state_of self.old) (firsts (scene_of R.meaning W.watching scene.now)) }
         ensures grown { Grown self.old self.new }
     {
         for node in 0..scene.recipe.nodes() {

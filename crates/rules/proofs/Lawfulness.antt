@@ -1,11 +1,11 @@
 -- What a recipe's being lawful gives to the rules and the watches.
-use Rattle.std.proofs.Common.{◌≡◌, ℕ, ◌+◌, ◌<◌, ◌≤◌, true, false, cond, eqb, ltb, List, length, get_or, Some, None, unwrap_or, sym, refl, ap, ◌∙◌, inl, inr, arith}
+use Rattle.std.proofs.Common.{◌≡◌, ℕ, ◌+◌, ◌<◌, ◌≤◌, cond, ltb, List, length, get_or, unwrap_or, sym, ap, ◌∙◌, inl, inr, arith}
 use Rattle.std.specs.List.{slice_get}
 use Rattle.std.proofs.lemmas.List.{get_or_past}
 use Rattle.std.proofs.lemmas.Option.{slice_get-get_or}
 use Rattle.std.proofs.lemmas.Bool.{cases_lt, cond-true, cond-false, lt-ltb, le-ltb}
 use Rattle.std.proofs.lemmas.Bool.Decides.{nat_tests}
-use Rattle.model.specs.Program.{no_method, no_row, method_at, home, offset, rights_of}
+use Rattle.model.specs.Program.{no_method, no_row, method_at, rights_of}
 use Rattle.model.specs.Watches.{leads}
 use Rattle.model.proofs.Sums.{home_far}
 use Rattle.recipe.specs.declared.Recipe.{Recipe}

@@ -1,5 +1,5 @@
 -- Steps of a scan for an edge.
-use Rattle.std.proofs.Common.{◌≡◌, ℕ, true, false, ◌&&◌, ◌||◌, eqb, List, [], ◌∷◌, sym, refl, ap, ◌∙◌}
+use Rattle.std.proofs.Common.{◌≡◌, ℕ, true, false, ◌&&◌, ◌||◌, eqb, List, [], ◌∷◌, refl, ap}
 use Rattle.std.proofs.lemmas.Bool.{or_left}
 use Rattle.model.specs.declared.Edge.{Edge}
 use Rattle.walker.specs.Walking.{leads}

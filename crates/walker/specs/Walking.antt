@@ -1,12 +1,12 @@
 -- One step of the walker: where it leads from the frames in a stack, bottom first, and what the stack holds then.
-use Rattle.std.specs.Prelude.{ℕ, ◌+◌, ◌-◌, Bool, true, false, cond, ◌&&◌, ◌||◌, List, [], ◌∷◌, length, get_or, Some, None, Ok, Err, Option, Result, ◌==◌, nat_le, nat_lt, slice_index_or, slice_set}
+use Rattle.std.specs.Prelude.{ℕ, ◌+◌, ◌-◌, Bool, false, cond, ◌&&◌, ◌||◌, List, [], ◌∷◌, length, get_or, Some, None, Ok, Err, Option, Result, ◌==◌, nat_le, nat_lt, slice_index_or, slice_set}
 use Rattle.model.specs.declared.Edge.{Edge}
 use Rattle.model.specs.declared.Frame.{Frame}
 use Rattle.model.specs.declared.Kind.{Kind}
 use Rattle.model.specs.declared.Kind.TheVariants.{Nop, Call, Check, Return}
-use Rattle.model.specs.Access.{Rule, is_entry_of, call_enters}
+use Rattle.model.specs.Access.{Rule, is_entry_of}
 use Rattle.model.specs.Program.{Program, node_at}
-use Rattle.model.specs.Runs.{reads, is_call, returns_at}
+use Rattle.model.specs.Runs.{reads, is_call}
 use Rattle.model.specs.Watches.{Watch}
 use Rattle.recipe.specs.declared.grounds.Refusal.{Refusal}
 use Rattle.recipe.specs.declared.grounds.Refusal.TheVariants.{Misplaced, Miscounted, BadMethod, BadNode, BadEdge, BadRow, TooMany, OtherCounts, UnfitTable, NotAStep, StackFull, ShortOutput}

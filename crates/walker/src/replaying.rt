@@ -33,10 +33,10 @@ pub fn replay<R: AccessRule, W: Watch>(
     stack: &mut [Frame],
     nodes: &[u32],
 ) -> Result<Stand, Refusal>
-    ensures answer { result ≡ (replayed (program recipe.now) (listed_edges (program recipe.now) edges.now) (meaning rule.now (program recipe.now)) (watching watch.now) nodes.now stack.old).at }
-    ensures frames { stack.new ≡ (replayed (program recipe.now) (listed_edges (program recipe.now) edges.now) (meaning rule.now (program recipe.now)) (watching watch.now) nodes.now stack.old).stack }
-    ensures told { MatchResult result (Stands (program recipe.now) (listed_edges (program recipe.now) edges.now) (meaning rule.now (program recipe.now)) (watching watch.now) nodes.now stack.new) (Refuses (program recipe.now) (listed_edges (program recipe.now) edges.now) (meaning rule.now (program recipe.now)) (watching watch.now) nodes.now (length stack.old)) }
-    ensures accepts { Enough (program recipe.now) (listed_edges (program recipe.now) edges.now) (meaning rule.now (program recipe.now)) (watching watch.now) nodes.now (length stack.old) → Decides (is_ok result) (RunTrace (program recipe.now) (listed_edges (program recipe.now) edges.now) (meaning rule.now (program recipe.now)) (watching watch.now) nodes.now) }
+    ensures answer { result ≡ (replayed (program recipe.now) (listed_edges (program recipe.now) edges.now) (R.meaning rule.now (program recipe.now)) (W.watching watch.now) nodes.now stack.old).at }
+    ensures frames { stack.new ≡ (replayed (program recipe.now) (listed_edges (program recipe.now) edges.now) (R.meaning rule.now (program recipe.now)) (W.watching watch.now) nodes.now stack.old).stack }
+    ensures told { MatchResult result (Stands (program recipe.now) (listed_edges (program recipe.now) edges.now) (R.meaning rule.now (program recipe.now)) (W.watching watch.now) nodes.now stack.new) (Refuses (program recipe.now) (listed_edges (program recipe.now) edges.now) (R.meaning rule.now (program recipe.now)) (W.watching watch.now) nodes.now (length stack.old)) }
+    ensures accepts { Enough (program recipe.now) (listed_edges (program recipe.now) edges.now) (R.meaning rule.now (program recipe.now)) (W.watching watch.now) nodes.now (length stack.old) → Decides (is_ok result) (RunTrace (program recipe.now) (listed_edges (program recipe.now) edges.now) (R.meaning rule.now (program recipe.now)) (W.watching watch.now) nodes.now) }
 {
     if nodes.len() == 0 {
         return Err(Refusal::NotAStep { place: 0 });
@@ -61,9 +61,9 @@ pub fn replay_history<W: Watch>(
     stack: &mut [Frame],
     nodes: &[u32],
 ) -> Result<Stand, Refusal>
-    ensures answer { result ≡ (replayed (program recipe.now) (listed_edges (program recipe.now) edges.now) (history (program recipe.now)) (watching watch.now) nodes.now stack.old).at }
-    ensures frames { stack.new ≡ (replayed (program recipe.now) (listed_edges (program recipe.now) edges.now) (history (program recipe.now)) (watching watch.now) nodes.now stack.old).stack }
-    ensures accepts { Enough (program recipe.now) (listed_edges (program recipe.now) edges.now) (history (program recipe.now)) (watching watch.now) nodes.now (length stack.old) → Decides (is_ok result) (HistoryTrace (program recipe.now) (listed_edges (program recipe.now) edges.now) nodes.now) }
+    ensures answer { result ≡ (replayed (program recipe.now) (listed_edges (program recipe.now) edges.now) (history (program recipe.now)) (W.watching watch.now) nodes.now stack.old).at }
+    ensures frames { stack.new ≡ (replayed (program recipe.now) (listed_edges (program recipe.now) edges.now) (history (program recipe.now)) (W.watching watch.now) nodes.now stack.old).stack }
+    ensures accepts { Enough (program recipe.now) (listed_edges (program recipe.now) edges.now) (history (program recipe.now)) (W.watching watch.now) nodes.now (length stack.old) → Decides (is_ok result) (HistoryTrace (program recipe.now) (listed_edges (program recipe.now) edges.now) nodes.now) }
 {
     replay(recipe, edges, &History, watch, stack, nodes)
 }
@@ -76,9 +76,9 @@ pub fn replay_stack<W: Watch>(
     stack: &mut [Frame],
     nodes: &[u32],
 ) -> Result<Stand, Refusal>
-    ensures answer { result ≡ (replayed (program recipe.now) (listed_edges (program recipe.now) edges.now) (stack_inspection (program recipe.now)) (watching watch.now) nodes.now stack.old).at }
-    ensures frames { stack.new ≡ (replayed (program recipe.now) (listed_edges (program recipe.now) edges.now) (stack_inspection (program recipe.now)) (watching watch.now) nodes.now stack.old).stack }
-    ensures accepts { Enough (program recipe.now) (listed_edges (program recipe.now) edges.now) (stack_inspection (program recipe.now)) (watching watch.now) nodes.now (length stack.old) → Decides (is_ok result) (StackTrace (program recipe.now) (listed_edges (program recipe.now) edges.now) nodes.now) }
+    ensures answer { result ≡ (replayed (program recipe.now) (listed_edges (program recipe.now) edges.now) (stack_inspection (program recipe.now)) (W.watching watch.now) nodes.now stack.old).at }
+    ensures frames { stack.new ≡ (replayed (program recipe.now) (listed_edges (program recipe.now) edges.now) (stack_inspection (program recipe.now)) (W.watching watch.now) nodes.now stack.old).stack }
+    ensures accepts { Enough (program recipe.now) (listed_edges (program recipe.now) edges.now) (stack_inspection (program recipe.now)) (W.watching watch.now) nodes.now (length stack.old) → Decides (is_ok result) (StackTrace (program recipe.now) (listed_edges (program recipe.now) edges.now) nodes.now) }
 {
     replay(recipe, edges, &StackInspection, watch, stack, nodes)
 }

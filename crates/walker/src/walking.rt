@@ -20,7 +20,7 @@ fn stand<W: Watch>(
     state: u32,
     node: u32,
 ) -> Stand
-    ensures { result ≡ stand_at (watching watch.now) depth (record { node = node; value = value }) ((watching watch.now).step state (reads (program recipe.now) node)) }
+    ensures { result ≡ stand_at (W.watching watch.now) depth (record { node = node; value = value }) ((W.watching watch.now).step state (reads (program recipe.now) node)) }
 {
     let state = watch.step(state, recipe.node_at(node).mark);
     Stand {
@@ -52,8 +52,8 @@ pub fn start<R: AccessRule, W: Watch>(
     stack: &mut [Frame],
     node: u32,
 ) -> Result<Stand, Refusal>
-    ensures answer { result ≡ step_answer (program recipe.now) (watching watch.now) (step_first (program recipe.now) (meaning rule.now (program recipe.now)) node) (length stack.old) (watching watch.now).start node 0 }
-    ensures frames { stack.new ≡ step_stack (step_first (program recipe.now) (meaning rule.now (program recipe.now)) node) stack.old }
+    ensures answer { result ≡ step_answer (program recipe.now) (W.watching watch.now) (step_first (program recipe.now) (R.meaning rule.now (program recipe.now)) node) (length stack.old) (W.watching watch.now).start node 0 }
+    ensures frames { stack.new ≡ step_stack (step_first (program recipe.now) (R.meaning rule.now (program recipe.now)) node) stack.old }
 {
     if !recipe.is_entry_of(0, node) {
         return Err(NO_STEP);
@@ -77,8 +77,8 @@ pub fn go<R: AccessRule, W: Watch>(
     state: u32,
     node: u32,
 ) -> Result<Stand, Refusal>
-    ensures answer { result ≡ step_answer (program recipe.now) (watching watch.now) (step_from (program recipe.now) (listed_edges (program recipe.now) edges.now) (meaning rule.now (program recipe.now)) stack.old depth node) (length stack.old) state node 0 }
-    ensures frames { stack.new ≡ step_stack (step_from (program recipe.now) (listed_edges (program recipe.now) edges.now) (meaning rule.now (program recipe.now)) stack.old depth node) stack.old }
+    ensures answer { result ≡ step_answer (program recipe.now) (W.watching watch.now) (step_from (program recipe.now) (listed_edges (program recipe.now) edges.now) (R.meaning rule.now (program recipe.now)) stack.old depth node) (length stack.old) state node 0 }
+    ensures frames { stack.new ≡ step_stack (step_from (program recipe.now) (listed_edges (program recipe.now) edges.now) (R.meaning rule.now (program recipe.now)) stack.old depth node) stack.old }
 {
     if depth == 0 || depth > stack.len() {
         return Err(NO_STEP);

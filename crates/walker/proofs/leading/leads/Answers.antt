@@ -1,4 +1,4 @@
-use Rattle.std.proofs.Common.{◌≡◌, ◌+◌, true, false, get_or, drop, Some, sym, refl, ap, ◌∙◌}
+use Rattle.std.proofs.Common.{◌+◌, get_or, drop, Some, sym, ap, ◌∙◌}
 use Rattle.model.specs.Program.{no_edge, counted, counted_after}
 use Rattle.model.proofs.Edges.{scan_yes, scan_no, scan_end}
 use Rattle.recipe.specs.Recipes.{program}

@@ -1,4 +1,4 @@
-use Rattle.std.proofs.Common.{arith, rules}
+use Rattle.std.proofs.Common.{rules}
 use Rattle.recipe.proofs.Standing.{stands}
 use Rattle.rules.proofs.table.TableWatchWatch.states.Goals as goal
 
