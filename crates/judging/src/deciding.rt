@@ -52,7 +52,7 @@ fn inquired<R: AccessRule>(
     recipe: &Recipe,
     rule: &R,
 ) -> Result<Result<Report, Refusal>, AllocError>
-    ensures { IfOk result (λ a. a ≡ answered (fit_refusal (meaning rule.now (program recipe.now)).values (length (program recipe.now).rows + 1) (length (own_edges recipe.now)) 1024 4096) (report_in (meaning rule.now) (file_of recipe.now))) }
+    ensures { IfOk result (λ a. a ≡ answered (fit_refusal (R.meaning rule.now (program recipe.now)).values (length (program recipe.now).rows + 1) (length (own_edges recipe.now)) 1024 4096) (report_in (R.meaning rule.now) (file_of recipe.now))) }
 {
     let watch = TableWatch { recipe };
     let mut facts = vec![in heap; NO_FACT; FACTS]?;

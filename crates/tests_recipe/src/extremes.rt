@@ -123,10 +123,13 @@ fn samples_and_first_values(rt: HostRuntime) -> Result<(), Fail> {
     assert_eq!(rt; recipe_a::parts().file(heap)?.as_slice(), recipe_a::file());
     assert_eq!(rt;
         written_back(heap, &Recipe::built_in())?.as_slice(),
-        SMALLEST
+        SMALLEST.as_slice()
     );
     let mut recipe = Recipe::built_in();
     told(recipe::check(recipe::Draft::built_in(), &mut recipe))?;
-    assert_eq!(rt; written_back(heap, &recipe)?.as_slice(), SMALLEST);
+    assert_eq!(rt;
+        written_back(heap, &recipe)?.as_slice(),
+        SMALLEST.as_slice()
+    );
     Ok(())
 }

@@ -93,16 +93,16 @@ fn check_list(
     list: &[Edge],
     counting: &[Edge],
 ) -> Result<(), Fail> {
-    assert_eq!(rt; recipe.count(list), counting.len());
+    assert_eq!(rt; recipe.count(list), counting.len(), "{list:?}");
     let file = written(heap, recipe, list)?;
     let parts = Parts {
         edges: counting,
         ..recipe_a::parts()
     };
-    assert_eq!(rt; file.as_slice(), parts.file(heap)?.as_slice());
+    assert_eq!(rt; file.as_slice(), parts.file(heap)?.as_slice(), "{list:?}");
     let mut again = Recipe::built_in();
     told(recipe::read(&file, &mut again))?;
-    assert_eq!(rt; own_edges(heap, &again)?.as_slice(), counting);
+    assert_eq!(rt; own_edges(heap, &again)?.as_slice(), counting, "{list:?}");
     Ok(())
 }
 
@@ -114,7 +114,7 @@ fn only_edges_that_count_are_written(rt: HostRuntime) -> Result<(), Fail> {
     for (list, counting) in &LISTS {
         let list = edges_of(heap, list)?;
         let counting = edges_of(heap, counting)?;
-        check_list(&rt, heap, &a, &list, &counting).note(format_args!("{list:?}"))?;
+        check_list(&rt, heap, &a, &list, &counting)?;
     }
     Ok(())
 }

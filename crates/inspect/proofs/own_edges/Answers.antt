@@ -4,7 +4,7 @@ use Rattle.std.proofs.lemmas.Option.{slice_get-get_or}
 use Rattle.model.specs.Program.{no_edge}
 use Rattle.recipe.specs.Recipes.{own_edges}
 use Rattle.inspect.proofs.own_edges.Goals as goal
-use Rattle.inspect.proofs.own_edges.Goals.{in-Some+in_ok-push, in-default}
+use Rattle.inspect.proofs.own_edges.Goals.{in-Some+in_ok-push, in_default}
 
 -- One more edge: the recipe has one of this number, so it is Some, and it was pushed.
 pub loop-i-preserved : goal.loop-i-preserved
@@ -16,7 +16,7 @@ loop-i-preserved c =
     let more = take_more es i no_edge lt in
     elim c.match-edge.branch [
       | in-Some+in_ok-push w ↦ let pushed = w.in_ok-push.ensures.items in cc
-      | in-default w ↦ cc
+      | in_default w ↦ cc
     ]
 
 -- The loop ended past the last edge.

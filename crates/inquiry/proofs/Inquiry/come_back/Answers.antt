@@ -28,6 +28,6 @@ returns g c =
     let back = c.args.back in
     let along = back_row (scene_of g.R.AccessRule.meaning g.W.Watch.watching scene) call.at call.fact back.at back.fact in
     record {
-      state = going_end (going_on (ap (map along) c.in-default.ensures) c.loop-found.invariant);
+      state = going_end (going_on (ap (map along) c.in_default.ensures) c.loop-found.invariant);
       grown = c.loop-found.invariant.grown;
     }

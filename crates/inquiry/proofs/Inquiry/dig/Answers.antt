@@ -26,8 +26,8 @@ returns g c =
     c.work_up_to.ensures.state
     ∙ ap (λ es. dug (setting_of (g.R.AccessRule.meaning c.args.rule.now) (g.W.Watch.watching c.args.watch.now) c.args.recipe.now es) i.places c.args.allowed (state_of i)) part in
     record {
-      answer = gives_answer (dig_refusal i X (length edges)) _ (dug_from (state_of i) after) c.in-default.ensures (dug_is i t after search);
-      state = leaves_new (dig_refusal i X (length edges)) (state_of t) after (state_of i) c.in-default.ensures search;
+      answer = gives_answer (dig_refusal i X (length edges)) _ (dug_from (state_of i) after) c.in_default.ensures (dug_is i t after search);
+      state = leaves_new (dig_refusal i X (length edges)) (state_of t) after (state_of i) c.in_default.ensures search;
       grown = c.work_up_to.ensures.grown;
       sound = λ h. subst (Sound X i.places) (sym search) (dug_sound X i.places c.args.allowed (state_of i) h);
     }

@@ -26,6 +26,6 @@ returns g c =
     let from = c.args.from in
     let along = follow_row (scene_of g.R.AccessRule.meaning g.W.Watch.watching scene) from.at from.fact in
     record {
-      state = going_end (going_on (ap (map along) c.in-default.ensures) c.loop-found.invariant);
+      state = going_end (going_on (ap (map along) c.in_default.ensures) c.loop-found.invariant);
       grown = c.loop-found.invariant.grown;
     }

@@ -40,6 +40,6 @@ returns g c =
     let grown = c.loop-at.invariant.grown in
     let held : own.at < b.held = c.requires in
     record {
-      state = going_end (going_on (each_none c.loop-at.from own.at (return_at X (state_of b).rows own.at own.fact) (λ k low high. no_return X grown own.at own.fact k (omega arith) (c.in-default.ensures k low high))) c.loop-at.invariant);
+      state = going_end (going_on (each_none c.loop-at.from own.at (return_at X (state_of b).rows own.at own.fact) (λ k low high. no_return X grown own.at own.fact k (omega arith) (c.in_default.ensures k low high))) c.loop-at.invariant);
       grown = grown;
     }

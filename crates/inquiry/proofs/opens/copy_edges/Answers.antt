@@ -2,7 +2,7 @@ use Rattle.std.proofs.Common.{◌<◌, length, set, sym, ap, ◌∙◌, arith}
 use Rattle.recipe.specs.Recipes.{own_edges}
 use Rattle.inquiry.proofs.Begun.{copied_more, some_edge, copied_all}
 use Rattle.inquiry.proofs.opens.copy_edges.Goals as goal
-use Rattle.inquiry.proofs.opens.copy_edges.Goals.{in-Some, in-default}
+use Rattle.inquiry.proofs.opens.copy_edges.Goals.{in-Some, in_default}
 
 pub loop-i-preserved : goal.loop-i-preserved
 loop-i-preserved c =
@@ -14,7 +14,7 @@ loop-i-preserved c =
       | in-Some w ↦
           w.edges-is ∙ ap (λ ds. set ds i w.in-Some.e) c.loop-i.invariant
           ∙ copied_more own es i w.in-Some.e lt (omega (arith, c.requires)) (sym c.edge.ensures ∙ w.in-Some.is)
-      | in-default w ↦ absurd (some_edge own i lt (sym c.edge.ensures ∙ w.in-default.is))
+      | in_default w ↦ absurd (some_edge own i lt (sym c.edge.ensures ∙ w.in_default.is))
     ]
 
 pub returns : goal.returns
