@@ -18,7 +18,7 @@ loop-turn-preserved g c =
     let X = scene_of g.R.AccessRule.meaning g.W.Watch.watching c.args.scene.now in
     let t = c.loop-turn.self in
     let u = c.work.new.self in
-    let turn = c.loop-turn.-turn in
+    let turn = c.loop-turn._turn in
     let left = c.args.allowed - (turn + 1) in
     let more : c.args.allowed - turn ≡ suc left = omega (arith, c.loop-turn-test.true) in
     let lt : t.worked < t.held = omega (arith, t.some, c.if-self-2.false) in (
@@ -31,7 +31,7 @@ pub returns-then-self : goal.returns-then-self
 returns-then-self g c =
     let X = scene_of g.R.AccessRule.meaning g.W.Watch.watching c.args.scene.now in
     let t = c.loop-turn.self in
-    let left = c.args.allowed - c.loop-turn.-turn in
+    let left = c.args.allowed - c.loop-turn._turn in
     record {
       state = elim c.then-self.branch [
         | then-self-via-then-self w ↦ sym (dug_idle X t.places (state_of t) left (idle_full t w.if-self.true)) ∙ c.loop-turn.invariant.0
@@ -45,6 +45,6 @@ returns g c =
     let X = scene_of g.R.AccessRule.meaning g.W.Watch.watching c.args.scene.now in
     let t = c.loop-turn.self in
     record {
-      state = sym (dug_none X t.places (state_of t) (c.args.allowed - c.loop-turn.-turn) (omega (arith, c.loop-turn-test.false))) ∙ c.loop-turn.invariant.0;
+      state = sym (dug_none X t.places (state_of t) (c.args.allowed - c.loop-turn._turn) (omega (arith, c.loop-turn-test.false))) ∙ c.loop-turn.invariant.0;
       grown = c.loop-turn.invariant.1;
     }

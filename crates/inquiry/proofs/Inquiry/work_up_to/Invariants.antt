@@ -7,5 +7,5 @@ use Rattle.inquiry.proofs.Inquiry.work_up_to.Given as goal
 abbrev pub invariant-loop-turn : goal.invariant-loop-turn
 invariant-loop-turn g l =
     let X = scene_of g.R.AccessRule.meaning g.W.Watch.watching l.scene in
-    (dug X l.self.places (l.allowed - l.-turn) (state_of l.self) ≡ dug X l.initial.self.places l.allowed (state_of l.initial.self))
+    (dug X l.self.places (l.allowed - l._turn) (state_of l.self) ≡ dug X l.initial.self.places l.allowed (state_of l.initial.self))
     × Grown l.initial.self l.self
