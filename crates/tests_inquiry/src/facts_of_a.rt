@@ -108,9 +108,7 @@ fn both_rules_with_walls(rt: HostRuntime) -> Result<(), Fail> {
     assert!(rt; read(recipe_a::file(), &mut recipe).is_ok());
     for (one, two, history, stack) in WALLS {
         let watch = WallWatch { one, two };
-        check_wall(&rt, rt.alloc(), &recipe, &watch, history, stack).note(format_args!(
-            "{one} {two}"
-        ))?;
+        check_wall(&rt, rt.alloc(), &recipe, &watch, history, stack)?;
     }
     Ok(())
 }

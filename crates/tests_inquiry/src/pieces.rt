@@ -78,9 +78,10 @@ fn check_pieces(
         Dug {
             finished: expected.worked,
             held: expected.held,
-        }
+        },
+        "{pieces:?}"
     );
-    assert_eq!(rt; verdict.ok(), Some(expected.verdict));
+    assert_eq!(rt; verdict.ok(), Some(expected.verdict), "{pieces:?}");
     check_report(rt, report, expected)?;
     let rows = stack_rows();
     let held = expected.held as usize;
@@ -99,7 +100,7 @@ fn pieces_come_to_the_whole(rt: HostRuntime) -> Result<(), Fail> {
             held,
             worked,
         };
-        check_pieces(&rt, &recipe, pieces, expected).note(format_args!("{pieces:?}"))?;
+        check_pieces(&rt, &recipe, pieces, expected)?;
     }
     Ok(())
 }

@@ -48,8 +48,7 @@ fn small_tables_under_both_rules(rt: HostRuntime) -> Result<(), Fail> {
             places,
             expected,
             stack_rows(),
-        )
-        .note(format_args!("{places} places under stack inspection"))?;
+        )?;
     }
     for (places, verdict, held, worked) in HISTORY {
         let expected = Expected {
@@ -66,8 +65,7 @@ fn small_tables_under_both_rules(rt: HostRuntime) -> Result<(), Fail> {
             places,
             expected,
             history_rows(),
-        )
-        .note(format_args!("{places} places under history"))?;
+        )?;
     }
     Ok(())
 }

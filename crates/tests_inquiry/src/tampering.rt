@@ -52,7 +52,7 @@ fn tampered_edges_count_by_the_rules(rt: HostRuntime) -> Result<(), Fail> {
             held: facts,
             worked: facts,
         };
-        check_report(&rt, report, expected).note(format_args!("place {place}: {from}-{to}"))?;
+        check_report(&rt, report, expected)?;
     }
     Ok(())
 }

@@ -74,18 +74,24 @@ fn check_fit<R: AccessRule, W: Watch>(
 ) -> Result<(), Fail> {
     let mut facts = vec![in heap; MARK; places.0]?;
     let mut edges = vec![in heap; MARK_EDGE; places.1]?;
-    assert_eq!(rt; number(fit(recipe, rule, watch, &facts, &edges)), refused);
+    assert_eq!(rt;
+        number(fit(recipe, rule, watch, &facts, &edges)),
+        refused,
+        "{places:?}"
+    );
     check_edges(rt, &edges, &[])?;
     assert_eq!(rt;
         told(recipe, rule, watch, &mut facts, &mut edges),
-        [refused; 3]
+        [refused; 3],
+        "{places:?}"
     );
     if refused == 0 {
         return check_edges(rt, &edges, recipe_a::parts().edges);
     }
     assert_eq!(rt;
         number(inquire(recipe, rule, watch, &mut facts, &mut edges, 9)),
-        refused
+        refused,
+        "{places:?}"
     );
     check_edges(rt, &edges, &[])?;
     check_rows(rt, &facts, &[]);
@@ -106,8 +112,7 @@ fn tables_that_do_not_fit(rt: HostRuntime) -> Result<(), Fail> {
             &watch,
             (facts, edges),
             refused,
-        )
-        .note(format_args!("{facts} fact places, {edges} edge places"))?;
+        )?;
     }
     Ok(())
 }
@@ -119,9 +124,7 @@ fn counts_that_do_not_fit(rt: HostRuntime) -> Result<(), Fail> {
     for (values, states, edges, refused) in COUNTS {
         let rule = Idle { more: values };
         let watch = Idle { more: states };
-        check_fit(&rt, rt.alloc(), &recipe, &rule, &watch, (7, edges), refused).note(format_args!(
-            "{values} {states} more, {edges} edge places"
-        ))?;
+        check_fit(&rt, rt.alloc(), &recipe, &rule, &watch, (7, edges), refused)?;
     }
     Ok(())
 }
