@@ -82,7 +82,7 @@ required_of (Call callee grant accept privileged) = 0
 required_of (Check required) = required
 required_of Return = 0
 
--- sets of rights: union is bitOr, intersection is bitAnd. History enters with (C ∪ grant) ∩ the callee's rights, and comes back with C ∩ (u ∪ accept)
+-- sets of rights: union is bit_or, intersection is bit_and. History enters with (C ∪ grant) ∩ the callee's rights, and comes back with C ∩ (u ∪ accept)
 abbrev pub history_enter : ℕ → ℕ → ℕ → ℕ
 history_enter c grant callee = bit_and (bit_or c grant) callee
 

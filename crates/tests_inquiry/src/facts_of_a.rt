@@ -54,6 +54,7 @@ fn both_tables_place_by_place(rt: HostRuntime) -> Result<(), Fail> {
         9,
         safe,
         history_rows(),
+        "history",
     )?;
     let bad = Expected {
         verdict: Verdict::Unsafe,
@@ -69,6 +70,7 @@ fn both_tables_place_by_place(rt: HostRuntime) -> Result<(), Fail> {
         12,
         bad,
         stack_rows(),
+        "stack inspection",
     )
 }
 
@@ -87,19 +89,20 @@ fn check_wall(
     watch: &WallWatch,
     history: Verdict,
     stack: Verdict,
+    case: &str,
 ) -> Result<(), Fail> {
     let history = Expected {
         verdict: history,
         held: 4,
         worked: 4,
     };
-    check_counts(rt, heap, recipe, &History, watch, history)?;
+    check_counts(rt, heap, recipe, &History, watch, history, case)?;
     let stack = Expected {
         verdict: stack,
         held: 7,
         worked: 7,
     };
-    check_counts(rt, heap, recipe, &StackInspection, watch, stack)
+    check_counts(rt, heap, recipe, &StackInspection, watch, stack, case)
 }
 
 #[test]
@@ -108,7 +111,8 @@ fn both_rules_with_walls(rt: HostRuntime) -> Result<(), Fail> {
     assert!(rt; read(recipe_a::file(), &mut recipe).is_ok());
     for (one, two, history, stack) in WALLS {
         let watch = WallWatch { one, two };
-        check_wall(&rt, rt.alloc(), &recipe, &watch, history, stack)?;
+        let case = format!(in rt.alloc(); "the wall of marks {one} and {two}")?;
+        check_wall(&rt, rt.alloc(), &recipe, &watch, history, stack, &case)?;
     }
     Ok(())
 }

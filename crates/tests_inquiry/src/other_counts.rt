@@ -87,7 +87,7 @@ fn other_counts_are_refused(rt: HostRuntime) -> Result<(), Fail> {
         held: 4,
         worked: 4,
     };
-    check_report(&rt, report, expected)?;
+    check_report(&rt, report, expected, "after digs with other counts")?;
     check_rows(&rt, &facts, history_rows());
     Ok(())
 }

@@ -64,6 +64,7 @@ fn check_pieces(
     recipe: &Recipe,
     pieces: &[u32],
     expected: Expected,
+    case: &str,
 ) -> Result<(), Fail> {
     let mut facts = [MARK; 9];
     let mut edges = [MARK_EDGE; 4];
@@ -79,10 +80,10 @@ fn check_pieces(
             finished: expected.worked,
             held: expected.held,
         },
-        "{pieces:?}"
+        "{case}"
     );
-    assert_eq!(rt; verdict.ok(), Some(expected.verdict), "{pieces:?}");
-    check_report(rt, report, expected)?;
+    assert_eq!(rt; verdict.ok(), Some(expected.verdict), "{case}");
+    check_report(rt, report, expected, case)?;
     let rows = stack_rows();
     let held = expected.held as usize;
     assert!(rt; held <= rows.len());
@@ -100,7 +101,8 @@ fn pieces_come_to_the_whole(rt: HostRuntime) -> Result<(), Fail> {
             held,
             worked,
         };
-        check_pieces(&rt, &recipe, pieces, expected)?;
+        let case = format!(in rt.alloc(); "{pieces:?}")?;
+        check_pieces(&rt, &recipe, pieces, expected, &case)?;
     }
     Ok(())
 }

@@ -39,6 +39,7 @@ fn small_tables_under_both_rules(rt: HostRuntime) -> Result<(), Fail> {
             held,
             worked,
         };
+        let case = format!(in rt.alloc(); "{places} places under stack inspection")?;
         check_inquiry(
             &rt,
             rt.alloc(),
@@ -48,6 +49,7 @@ fn small_tables_under_both_rules(rt: HostRuntime) -> Result<(), Fail> {
             places,
             expected,
             stack_rows(),
+            &case,
         )?;
     }
     for (places, verdict, held, worked) in HISTORY {
@@ -56,6 +58,7 @@ fn small_tables_under_both_rules(rt: HostRuntime) -> Result<(), Fail> {
             held,
             worked,
         };
+        let case = format!(in rt.alloc(); "{places} places under history")?;
         check_inquiry(
             &rt,
             rt.alloc(),
@@ -65,6 +68,7 @@ fn small_tables_under_both_rules(rt: HostRuntime) -> Result<(), Fail> {
             places,
             expected,
             history_rows(),
+            &case,
         )?;
     }
     Ok(())

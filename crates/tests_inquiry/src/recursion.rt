@@ -150,6 +150,7 @@ fn main_calls_itself(rt: HostRuntime) -> Result<(), Fail> {
         5,
         expected,
         &SELF_ROWS,
+        "history",
     )?;
     check_inquiry(
         &rt,
@@ -160,6 +161,7 @@ fn main_calls_itself(rt: HostRuntime) -> Result<(), Fail> {
         3,
         expected,
         &SELF_ROWS,
+        "stack inspection",
     )
 }
 
@@ -183,6 +185,7 @@ fn entries_and_a_callee_that_calls_itself(rt: HostRuntime) -> Result<(), Fail> {
         16,
         expected,
         &TWO_ROWS,
+        "history",
     )?;
     for (two, verdict, held) in [(2, Verdict::Unsafe, 15), (7, Verdict::Safe, 15)] {
         let expected = Expected {
@@ -197,6 +200,7 @@ fn entries_and_a_callee_that_calls_itself(rt: HostRuntime) -> Result<(), Fail> {
             &StackInspection,
             &WallWatch { one: 1, two },
             expected,
+            "stack inspection",
         )?;
     }
     let safe = Expected {
@@ -211,5 +215,6 @@ fn entries_and_a_callee_that_calls_itself(rt: HostRuntime) -> Result<(), Fail> {
         &History,
         &WallWatch { one: 1, two: 7 },
         safe,
+        "history, with another wall",
     )
 }

@@ -72,10 +72,12 @@ pub struct Expected {
     pub worked: u32,
 }
 
+// Of an inquiry, which a failure names as its case.
 pub fn check_report(
     rt: &impl Abort,
     answer: Result<Report, Refusal>,
     expected: Expected,
+    case: &str,
 ) -> Result<(), Fail> {
     let Ok(report) = answer else {
         return Err(Fail::new("the inquiry was refused"));
@@ -91,7 +93,8 @@ pub fn check_report(
             verdict,
             held,
             worked,
-        }
+        },
+        "{case}"
     );
     Ok(())
 }
@@ -106,11 +109,12 @@ pub fn check_inquiry<R: AccessRule, W: Watch>(
     places: usize,
     expected: Expected,
     rows: &[Row],
+    case: &str,
 ) -> Result<(), Fail> {
     let mut facts = vec![in heap; MARK; places]?;
     let mut edges = vec![in heap; MARK_EDGE; recipe.edges() as usize]?;
     let answer = inquire(recipe, rule, watch, &mut facts, &mut edges, u32::MAX);
-    check_report(rt, answer, expected)?;
+    check_report(rt, answer, expected, case)?;
     let held = expected.held as usize;
     assert!(rt; held <= rows.len());
     check_rows(rt, &facts, &rows[0..held]);
@@ -125,9 +129,10 @@ pub fn check_counts<R: AccessRule, W: Watch>(
     rule: &R,
     watch: &W,
     expected: Expected,
+    case: &str,
 ) -> Result<(), Fail> {
     let mut facts = vec![in heap; MARK; 32]?;
     let mut edges = vec![in heap; MARK_EDGE; recipe.edges() as usize]?;
     let answer = inquire(recipe, rule, watch, &mut facts, &mut edges, u32::MAX);
-    check_report(rt, answer, expected)
+    check_report(rt, answer, expected, case)
 }

@@ -52,7 +52,8 @@ fn tampered_edges_count_by_the_rules(rt: HostRuntime) -> Result<(), Fail> {
             held: facts,
             worked: facts,
         };
-        check_report(&rt, report, expected)?;
+        let case = format!(in rt.alloc(); "place {place}: {from}-{to}")?;
+        check_report(&rt, report, expected, &case)?;
     }
     Ok(())
 }

@@ -71,19 +71,20 @@ fn check_fit<R: AccessRule, W: Watch>(
     watch: &W,
     places: (usize, usize),
     refused: u32,
+    case: &str,
 ) -> Result<(), Fail> {
     let mut facts = vec![in heap; MARK; places.0]?;
     let mut edges = vec![in heap; MARK_EDGE; places.1]?;
     assert_eq!(rt;
         number(fit(recipe, rule, watch, &facts, &edges)),
         refused,
-        "{places:?}"
+        "{case}"
     );
     check_edges(rt, &edges, &[])?;
     assert_eq!(rt;
         told(recipe, rule, watch, &mut facts, &mut edges),
         [refused; 3],
-        "{places:?}"
+        "{case}"
     );
     if refused == 0 {
         return check_edges(rt, &edges, recipe_a::parts().edges);
@@ -91,7 +92,7 @@ fn check_fit<R: AccessRule, W: Watch>(
     assert_eq!(rt;
         number(inquire(recipe, rule, watch, &mut facts, &mut edges, 9)),
         refused,
-        "{places:?}"
+        "{case}"
     );
     check_edges(rt, &edges, &[])?;
     check_rows(rt, &facts, &[]);
@@ -104,6 +105,7 @@ fn tables_that_do_not_fit(rt: HostRuntime) -> Result<(), Fail> {
     assert!(rt; read(recipe_a::file(), &mut recipe).is_ok());
     let watch = TableWatch { recipe: &recipe };
     for (facts, edges, refused) in TABLES {
+        let case = format!(in rt.alloc(); "{facts} fact places, {edges} edge places")?;
         check_fit(
             &rt,
             rt.alloc(),
@@ -112,6 +114,7 @@ fn tables_that_do_not_fit(rt: HostRuntime) -> Result<(), Fail> {
             &watch,
             (facts, edges),
             refused,
+            &case,
         )?;
     }
     Ok(())
@@ -124,7 +127,17 @@ fn counts_that_do_not_fit(rt: HostRuntime) -> Result<(), Fail> {
     for (values, states, edges, refused) in COUNTS {
         let rule = Idle { more: values };
         let watch = Idle { more: states };
-        check_fit(&rt, rt.alloc(), &recipe, &rule, &watch, (7, edges), refused)?;
+        let case = format!(in rt.alloc(); "{values} {states} more, {edges} edge places")?;
+        check_fit(
+            &rt,
+            rt.alloc(),
+            &recipe,
+            &rule,
+            &watch,
+            (7, edges),
+            refused,
+            &case,
+        )?;
     }
     Ok(())
 }
