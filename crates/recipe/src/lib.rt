@@ -8,6 +8,7 @@ ghost use Rattle.recipe.specs.Offence.{method_test, node_test, entry_test, edge_
 mod built_in;
 mod checking;
 mod contents;
+mod edges;
 mod grounds;
 mod numbers;
 mod reading;
@@ -15,9 +16,11 @@ mod records;
 mod seeking;
 mod spans;
 mod taking;
+mod words;
 mod writing;
 
 pub use checking::{check, read};
+pub use edges::{Counted, OwnEdges};
 pub use grounds::Refusal;
 pub use model::{Edge, Kind, Method, Node};
 pub use taking::take;
