@@ -1,16 +1,15 @@
-// Reads a recipe file from standard input, and prints what it comes to under both rules.
+// Reads a recipe file from standard input, and prints what it comes to under both rules, or the number of the refusal.
 #![tactic(auto)]
 
-use judging::judge;
+use judging::{JudgeError, judge};
 use std::io::Read;
 
-fn run(rt: &HostRuntime) -> anyhow::Result<()> {
+fn main(rt: HostRuntime) -> anyhow::Result<()> {
     let mut file = Vec::new(rt.alloc());
     rt.stdin().read_to_end(&mut file)?;
-    rt.println(judge(rt.alloc(), &file)?)?;
+    match judge(rt.alloc(), &file) {
+        Err(JudgeError::Refused(refusal)) => rt.println(refusal.number())?,
+        judged => rt.println(judged?)?,
+    }
     Ok(())
-}
-
-fn main(rt: HostRuntime) -> anyhow::Result<()> {
-    run(&rt)
 }

@@ -1,25 +1,18 @@
-// Judges the recipe files that it is given by name, and prints each name with what the file comes to.
+// Judges the recipe files that it is given by name, and prints each name with what the file comes to, or the number of the refusal.
 #![tactic(auto)]
 
-use judging::judge;
+use judging::{JudgeError, judge};
 use std::{env, fs};
 
-fn print_judged(rt: &HostRuntime, name: &str) -> anyhow::Result<()> {
-    let file = fs::read(rt, name)?;
-    let judged = judge(rt.alloc(), &file)?;
-    println!(rt; "{name}\n{judged}")?;
-    Ok(())
-}
-
-fn run(rt: &HostRuntime) -> anyhow::Result<()> {
-    let mut names = env::args(rt)?;
+fn main(rt: HostRuntime) -> anyhow::Result<()> {
+    let mut names = env::args(&rt)?;
     let _program = names.next();
     for name in names {
-        print_judged(rt, name.as_str())?;
+        rt.println(name.as_str())?;
+        match judge(rt.alloc(), &fs::read(&rt, name.as_str())?) {
+            Err(JudgeError::Refused(refusal)) => rt.println(refusal.number())?,
+            judged => rt.println(judged?)?,
+        }
     }
     Ok(())
-}
-
-fn main(rt: HostRuntime) -> anyhow::Result<()> {
-    run(&rt)
 }

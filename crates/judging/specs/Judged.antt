@@ -1,5 +1,5 @@
 -- What the bytes of a file come to.
-use Rattle.std.specs.Prelude.{ℕ, List, ◌++◌, Some, None, Ok, Err, Option, Result}
+use Rattle.std.specs.Prelude.{◌≡◌, ℕ, List, ◌++◌, length, Some, None, Ok, Err, Option, Result}
 use Rattle.model.specs.Access.{Rule, history, stack_inspection}
 use Rattle.model.specs.Facts.{Setting}
 use Rattle.model.specs.Program.{Program, counted}
@@ -9,11 +9,12 @@ use Rattle.recipe.specs.Bytes.{program_of, edges_of}
 use Rattle.recipe.specs.Format.{Legal as LegalFile}
 use Rattle.recipe.specs.Offence.{first_offence, take_tests, check_tests}
 use Rattle.recipe.specs.declared.grounds.Refusal.{Refusal}
-use Rattle.inquiry.specs.Calls.{report_of}
+use Rattle.inquiry.specs.Calls.{fit_answer, report_of}
 use Rattle.inquiry.specs.Promises.{Comes}
 use Rattle.inquiry.specs.declared.reports.Report.{Report}
 use Rattle.judging.specs.declared.Judgement.{Judgement}
-use Rattle.judging.specs.declared.Judgement.TheVariants.{Legal, Refused}
+use Rattle.judging.specs.declared.errors.JudgeError.{JudgeError}
+use Rattle.judging.specs.declared.errors.JudgeError.TheVariants.{Refused, OutOfMemory}
 
 -- a file's program with its own edges, under a rule, with the watch of its own rows
 abbrev pub setting_in : (Program → Rule) → List ℕ → Setting
@@ -26,22 +27,33 @@ state_in rule bs = dug (setting_in rule bs) 1024 1024 (opened (setting_in rule b
 abbrev pub report_in : (Program → Rule) → List ℕ → Report
 report_in rule bs = report_of (table_watch (program_of bs).rows) (state_in rule bs)
 
--- two reports, or the first refusal
-abbrev pub both_of : Result Report Refusal → Result Report Refusal → Judgement
-both_of (Ok h) (Ok s) = Legal h s
-both_of (Ok h) (Err e) = Refused e
-both_of (Err e) other = Refused e
+-- the reports under both rules
+abbrev pub reports_in : List ℕ → Judgement
+reports_in bs = record { history = report_in history bs; stack = report_in stack_inspection bs }
 
--- the reports under both rules, unless the file has an offence
-abbrev pub judged_by : Option Refusal → List ℕ → Judgement
-judged_by None bs = Legal (report_in history bs) (report_in stack_inspection bs)
-judged_by (Some e) bs = Refused e
+-- the reports, unless the file has an offence
+abbrev pub judged_by : Option Refusal → List ℕ → Result Judgement Refusal
+judged_by None bs = Ok (reports_in bs)
+judged_by (Some e) bs = Err e
 
 -- what a file comes to: the refusal of its first offence, or both reports
-abbrev pub judgement_of : List ℕ → Judgement
+abbrev pub judgement_of : List ℕ → Result Judgement Refusal
 judgement_of bs = judged_by (first_offence (take_tests bs ++ check_tests bs)) bs
 
--- what a judgement tells: the file is legal, and each report is right, of every run of its recipe under that rule; or the file is not legal
-abbrev pub Tells : List ℕ → Judgement → Type 0
-Tells bs (Legal h s) = LegalFile bs × Comes (setting_in history bs) 1024 1024 (state_in history bs) h × Comes (setting_in stack_inspection bs) 1024 1024 (state_in stack_inspection bs) s
-Tells bs (Refused e) = LegalFile bs → ⊥
+-- a call answers what the file comes to; only where there is a judgement can memory run out
+abbrev pub Answers : List ℕ → Result Judgement JudgeError → Type 0
+Answers bs (Ok j) = judgement_of bs ≡ Ok j
+Answers bs (Err (Refused e)) = judgement_of bs ≡ Err e
+Answers bs (Err OutOfMemory) = judgement_of bs ≡ Ok (reports_in bs)
+
+-- an inquiry into a recipe under a rule, in these tables, answers its report, unless the tables do not fit
+abbrev pub Reports : (Program → Rule) → List ℕ → Result Report JudgeError → Type 0
+Reports rule bs (Ok r) = r ≡ report_in rule bs
+Reports rule bs (Err (Refused e)) = fit_answer (setting_in rule bs) (length (edges_of bs)) 1024 4096 ≡ Err e
+Reports rule bs (Err OutOfMemory) = Unit {0}
+
+-- what an answer tells: the file is legal, and each report is right, of every run of its recipe under that rule; or the file is not legal
+abbrev pub Tells : List ℕ → Result Judgement JudgeError → Type 0
+Tells bs (Ok j) = LegalFile bs × Comes (setting_in history bs) 1024 1024 (state_in history bs) j.history × Comes (setting_in stack_inspection bs) 1024 1024 (state_in stack_inspection bs) j.stack
+Tells bs (Err (Refused e)) = LegalFile bs → ⊥
+Tells bs (Err OutOfMemory) = LegalFile bs

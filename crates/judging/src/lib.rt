@@ -2,17 +2,16 @@
 #![tactic(auto)]
 
 mod deciding;
+mod errors;
 mod showing;
 
 pub use deciding::judge;
+pub use errors::JudgeError;
 use inquiry::Report;
-use recipe::Refusal;
 
-// What a file comes to.
+// What a legal file comes to: what the inquiry reports under each rule.
 #[derive(Drop)]
-pub enum Judgement {
-    // It is legal: what the inquiry reports under each rule.
-    Legal { history: Report, stack: Report },
-    // It is no recipe file.
-    Refused(Refusal),
+pub struct Judgement {
+    pub history: Report,
+    pub stack: Report,
 }

@@ -1,27 +1,34 @@
-use Rattle.std.proofs.Common.{◌≡◌, ℕ, List, sym, refl, ap, ◌∙◌, subst}
-use Rattle.std.proofs.lemmas.Bool.{false≢true}
+use Rattle.std.proofs.Common.{◌≡◌, Ok, Err, refl, ap, ◌∙◌, rules}
+use Rattle.std.proofs.lemmas.Result.{err_from_is_err_and}
 use Rattle.model.specs.Access.{history, stack_inspection}
+use Rattle.recipe.specs.Format.{Legal}
 use Rattle.recipe.specs.Recipes.{file_of}
-use Rattle.judging.specs.declared.Judgement.{Judgement}
-use Rattle.judging.specs.declared.Judgement.TheVariants.{Legal}
-use Rattle.judging.specs.Judged.{report_in, judged_by, judgement_of, Tells}
-use Rattle.judging.proofs.Fitting.{cases_map, reports_tell}
+use Rattle.judging.specs.Judged.{reports_in, judgement_of}
+use Rattle.judging.proofs.Fitting.{fails_so, reports_tell}
 use Rattle.judging.proofs.deciding.judge.Goals as goal
 
-pub returns-in-Ok : goal.returns-in-Ok
-returns-in-Ok c =
-    let file = c.args.file.now in
-    let recipe = c.read.new.recipe in
-    let same : file_of recipe ≡ file = c.in-Ok.ensures.filled in
-    let both : List ℕ → Judgement = λ bs. Legal (report_in history bs) (report_in stack_inspection bs) in
-    record {
-      answer = cases_map c.judge_recipe.result (λ j. j ≡ both (file_of recipe)) (λ j. j ≡ judgement_of file) (λ j e. e ∙ ap both same ∙ ap (λ o. judged_by o file) c.in-Ok.ensures.answer) c.judge_recipe.ensures;
-      tells = cases_map c.judge_recipe.result (λ j. j ≡ both (file_of recipe)) (Tells file) (λ j e. subst (Tells file) (sym (e ∙ ap both same)) (reports_tell file (c.in-Ok.ensures.legal.0 refl))) c.judge_recipe.ensures;
-    }
+pub returns-in_err-history : goal.returns-in_err-history
+returns-in_err-history c =
+    let bs = c.args.file.now in
+    let same : file_of c.read.new.recipe ≡ bs = search rules in
+    let judged : judgement_of bs ≡ Ok (reports_in bs) = search rules in
+    let legal : Legal bs = search rules in
+    let e = err_from_is_err_and c.from_residual-in_err-history.result c.from_residual-in_err-history.ensures.1 in
+    let fails = fails_so history (λ p. refl) c.read.new.recipe bs same judged legal c.from_residual-in_err-history.result c.in_err-history.field-0.0 (e.1 ∙ ap Err e.2) c.in_err-history.ensures in
+    record { answer = fails.0; tells = fails.1 }
 
-pub returns-in-Err : goal.returns-in-Err
-returns-in-Err c =
-    record {
-      answer = ap (λ o. judged_by o c.args.file.now) c.in-Err.ensures.answer;
-      tells = λ legal. false≢true (c.in-Err.ensures.legal.1 legal);
-    }
+pub returns-in_err-stack : goal.returns-in_err-stack
+returns-in_err-stack c =
+    let bs = c.args.file.now in
+    let same : file_of c.read.new.recipe ≡ bs = search rules in
+    let judged : judgement_of bs ≡ Ok (reports_in bs) = search rules in
+    let legal : Legal bs = search rules in
+    let e = err_from_is_err_and c.from_residual-in_err-stack.result c.from_residual-in_err-stack.ensures.1 in
+    let fails = fails_so stack_inspection (λ p. refl) c.read.new.recipe bs same judged legal c.from_residual-in_err-stack.result c.in_err-stack.field-0.0 (e.1 ∙ ap Err e.2) c.in_err-stack.ensures in
+    record { answer = fails.0; tells = fails.1 }
+
+pub returns-clause-tells : goal.returns-clause-tells
+returns-clause-tells c =
+    let bs = c.args.file.now in
+    let legal : Legal bs = search rules in
+    reports_tell bs (record { history = c.in_ok-history.history; stack = c.in_ok-stack.stack }) legal (search rules)
