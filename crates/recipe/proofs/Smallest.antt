@@ -5,8 +5,7 @@ use Rattle.model.specs.Program.{offset, node_at, rights_of}
 use Rattle.recipe.specs.Bytes.{byte_at}
 use Rattle.recipe.specs.Format.{bytes_of}
 use Rattle.recipe.specs.Recipes.{smallest}
-use Rattle.recipe.proofs.ReadBack.{bytes_small, check_passes}
-use Rattle.recipe.proofs.WriteBack.{Checked, checked}
+use Rattle.recipe.proofs.ReadBack.{bytes_small}
 
 smallest_method : (k : ℕ) → k < 1 → MethodRules smallest k
 unfolding offset
@@ -36,6 +35,3 @@ smallest_lawful = record {
 
 pub smallest_small : (i : ℕ) → byte_at (bytes_of smallest []) i < 256
 smallest_small = bytes_small smallest [] smallest_lawful
-
-pub smallest_checked : Checked (bytes_of smallest [])
-smallest_checked = checked (bytes_of smallest []) (check_passes smallest [] smallest_lawful)

@@ -30,16 +30,25 @@ const CONTENTS: Contents = Contents {
     },
 };
 
+impl<'a> Layout<'a> {
+    // The layout of the smallest recipe.
+    fn built_in() -> Layout<'a>
+        ensures { result.file.now ≡ bytes_of smallest [] }
+    {
+        Layout {
+            file: &SMALLEST,
+            contents: CONTENTS,
+        }
+    }
+}
+
 impl<'a> Draft<'a> {
     // The draft of the smallest recipe.
     pub fn built_in() -> Draft<'a>
         ensures { draft_of result ≡ bytes_of smallest [] }
     {
         Draft {
-            layout: Layout {
-                file: &SMALLEST,
-                contents: CONTENTS,
-            },
+            layout: Layout::built_in(),
         }
     }
 }
@@ -50,10 +59,7 @@ impl<'a> Recipe<'a> {
         ensures { file_of result ≡ bytes_of smallest [] }
     {
         Recipe {
-            layout: Layout {
-                file: &SMALLEST,
-                contents: CONTENTS,
-            },
+            layout: Layout::built_in(),
         }
     }
 }

@@ -1,9 +1,9 @@
 // Recipe files: drafts and recipes over lent bytes, how they are taken, checked, read and written.
 #![tactic(auto)]
 
-ghost use Rattle.std.specs.Prelude.{◌≡◌, ℕ, ◌+◌, ◌*◌, ◌<◌, ◌≤◌, true, length, slice_index};
+ghost use Rattle.std.specs.Prelude.{◌≡◌, ℕ, ◌+◌, ◌*◌, ◌<◌, ◌≤◌, None, length, slice_index};
 ghost use Rattle.recipe.specs.Bytes.{place_in, count_in};
-ghost use Rattle.recipe.specs.Offence.{method_test, node_test, entry_test, edge_test, row_test};
+ghost use Rattle.recipe.specs.Offence.{first_offence, check_tests};
 
 mod built_in;
 mod checking;
@@ -50,13 +50,9 @@ pub struct Draft<'a> {
     layout: Layout<'a>,
 }
 
-// A file that was checked: each of its records is right too.
+// A file that was checked: check's tests refuse none of its records either.
 #[derive(Drop)]
 pub struct Recipe<'a> {
     layout: Layout<'a>,
-    ghost methods_pass: { (k : ℕ) → k < layout.contents.methods.count → method_test layout.file.now k ≡ true },
-    ghost nodes_pass: { (n : ℕ) → n < layout.contents.nodes.count → node_test layout.file.now n ≡ true },
-    ghost entries_pass: { (k : ℕ) → k < layout.contents.methods.count → entry_test layout.file.now k ≡ true },
-    ghost edges_pass: { (i : ℕ) → i < layout.contents.edges.count → edge_test layout.file.now i ≡ true },
-    ghost rows_pass: { (r : ℕ) → r < layout.contents.rows.count → row_test layout.file.now r ≡ true },
+    ghost passes: { first_offence (check_tests layout.file.now) ≡ None },
 }

@@ -27,7 +27,7 @@ impl Body {
         requires { wide ≤ 32 }
         ensures { result ≡ ends wide self.now }
     {
-        self.place as usize + wide * self.count as usize
+        usize::from(self.place) + wide * usize::from(self.count)
     }
 }
 
@@ -45,13 +45,14 @@ impl Contents {
     }
 
     // Whether each count lies within its limits.
+    #[tactic(auto, using(std::proofs::lemmas::Bool::Decides::nat_tests), unfolding(crate::specs::Offence::first_offence))]
     fn check_counts(&self) -> Result<(), Refusal>
         ensures { result_err result ≡ first_offence (count_tests self.now) }
     {
-        if self.methods.count < 1 || self.methods.count > 256 {
+        if !(1..=256).contains(&self.methods.count) {
             return Err(Refusal::Miscounted { entry: 0 });
         }
-        if self.nodes.count < 1 || self.nodes.count > 1024 {
+        if !(1..=1024).contains(&self.nodes.count) {
             return Err(Refusal::Miscounted { entry: 1 });
         }
         if self.edges.count > 4096 {
@@ -64,19 +65,20 @@ impl Contents {
     }
 
     // Whether the bodies follow each other without gaps to the end of the file.
+    #[tactic(auto, using(std::proofs::lemmas::Bool::Decides::nat_tests), unfolding(crate::specs::Offence::first_offence))]
     fn check_places(&self, len: usize) -> Result<(), Refusal>
         ensures { result_err result ≡ first_offence (place_tests self.now len) }
     {
         if self.methods.place != 16 {
             return Err(Refusal::Misplaced { entry: 0 });
         }
-        if self.nodes.place as usize != self.methods.end(4) {
+        if usize::from(self.nodes.place) != self.methods.end(4) {
             return Err(Refusal::Misplaced { entry: 1 });
         }
-        if self.edges.place as usize != self.nodes.end(8) {
+        if usize::from(self.edges.place) != self.nodes.end(8) {
             return Err(Refusal::Misplaced { entry: 2 });
         }
-        if self.rows.place as usize != self.edges.end(4) {
+        if usize::from(self.rows.place) != self.edges.end(4) {
             return Err(Refusal::Misplaced { entry: 3 });
         }
         if len != self.rows.end(32) {

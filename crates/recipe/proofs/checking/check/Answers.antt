@@ -1,9 +1,8 @@
-use Rattle.std.proofs.Common.{Ok, sym, refl, ◌∙◌, arith, rules}
+use Rattle.std.proofs.Common.{Ok, refl, ◌∙◌, rules}
 use Rattle.std.proofs.lemmas.Result.{MatchResult-from_err}
 use Rattle.recipe.proofs.Places.{laid}
 use Rattle.recipe.proofs.Stages.{exit}
 use Rattle.recipe.proofs.Verdicts.{legal_checked}
-use Rattle.recipe.proofs.WriteBack.{checked}
 use Rattle.recipe.proofs.checking.check.Goals as goal
 
 pub returns-in_err-check_all : goal.returns-in_err-check_all
@@ -12,18 +11,6 @@ returns-in_err-check_all c =
     let bs = l.file.now in
     let e = exit _ _ c.from_residual.ensures.1 ∙ c.in_err-check_all.ensures in
     record { answer = e; filled = MatchResult-from_err _ _ _ c.from_residual.ensures.0 (λ y. refl); legal = legal_checked bs _ l.bytes (laid l) e }
-
-pub invariant_of-recipe : goal.invariant_of-recipe
-invariant_of-recipe c =
-    let l = c.args.draft.layout in
-    let k = checked c.args.draft.layout.file.now (sym c.in_ok-check_all.ensures) in
-    record {
-      methods_pass = λ i h. k.methods i (omega arith);
-      nodes_pass = λ i h. k.nodes i (omega arith);
-      entries_pass = λ i h. k.entries i (omega arith);
-      edges_pass = λ i h. k.edges i (omega arith);
-      rows_pass = λ i h. k.rows i (omega arith);
-    }
 
 pub returns : goal.returns
 returns c =

@@ -1,7 +1,7 @@
 use Rattle.std.proofs.Common.{refl, arith}
 use Rattle.recipe.specs.Format.{bytes_of}
 use Rattle.recipe.proofs.Smallest.{smallest_small}
-use Rattle.recipe.proofs.Draft.built_in.Goals as goal
+use Rattle.recipe.proofs.Layout.built_in.Goals as goal
 
 pub invariant_of-result : goal.invariant_of-result
 unfolding bytes_of
