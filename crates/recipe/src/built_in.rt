@@ -3,7 +3,6 @@ ghost use Rattle.std.specs.Prelude.{◌≡◌, []};
 ghost use Rattle.recipe.specs.Format.{bytes_of};
 ghost use Rattle.recipe.specs.Recipes.{smallest, draft_of, file_of};
 
-use crate::contents::{Body, Contents};
 use crate::{Draft, Layout, Recipe};
 
 // One method with no rights and one node, an entry that returns.
@@ -11,34 +10,12 @@ static SMALLEST: [u8; 28] = [
     0, 16, 0, 1, 0, 20, 0, 1, 0, 28, 0, 0, 0, 28, 0, 0, 0, 0, 0, 1, 3, 0, 1, 0, 0, 0, 0, 0,
 ];
 
-const CONTENTS: Contents = Contents {
-    methods: Body {
-        place: 16,
-        count: 1,
-    },
-    nodes: Body {
-        place: 20,
-        count: 1,
-    },
-    edges: Body {
-        place: 28,
-        count: 0,
-    },
-    rows: Body {
-        place: 28,
-        count: 0,
-    },
-};
-
 impl<'a> Layout<'a> {
     // The layout of the smallest recipe.
     fn built_in() -> Layout<'a>
         ensures { result.file.now ≡ bytes_of smallest [] }
     {
-        Layout {
-            file: &SMALLEST,
-            contents: CONTENTS,
-        }
+        Layout::read(&SMALLEST).unwrap()
     }
 }
 

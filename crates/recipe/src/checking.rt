@@ -100,12 +100,7 @@ impl Layout<'_> {
         requires { first + many ≤ self.now.contents.nodes.count }
         ensures { result ≡ any_below many (λ j. (node_at (program_of self.now.file.now) (first + j)).entry) }
     {
-        for j in 0..many {
-            if self.node_at(first + j).entry {
-                return true;
-            }
-        }
-        false
+        (first..first + many).any(|n| self.node_at(n).entry)
     }
 
     // Each method has an entry.
@@ -166,14 +161,11 @@ impl Layout<'_> {
         requires { row < self.now.contents.rows.count }
         ensures { result ≡ row_test self.now.file.now row }
     {
-        let rows = self.contents.rows.count as u32;
-        for mark in 0..32 {
+        let rows = u32::from(self.contents.rows.count);
+        (0..32).all(|mark| {
             let cell = self.cell(row, mark);
-            if cell >= rows && cell != 255 {
-                return false;
-            }
-        }
-        true
+            cell < rows || cell == 255
+        })
     }
 
     // Each row is right.

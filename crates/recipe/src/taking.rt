@@ -1,5 +1,5 @@
 // Takes a file: its table of contents and its length, before anything is read of its records.
-ghost use Rattle.std.specs.Prelude.{◌≡◌, ℕ, ◌+◌, ◌*◌, ◌<◌, ◌≤◌, true, length, is_ok, MatchResult};
+ghost use Rattle.std.specs.Prelude.{◌≡◌, ℕ, ◌+◌, ◌*◌, ◌<◌, ◌≤◌, true, length, is_ok, IfOk, MatchResult};
 ghost use Rattle.std.specs.Result.{result_err};
 ghost use Rattle.recipe.specs.Bytes.{body_in, contents_in};
 ghost use Rattle.recipe.specs.Format.{Legal};
@@ -88,20 +88,30 @@ impl Contents {
     }
 }
 
+impl<'a> Layout<'a> {
+    // The layout of a file, if its table of contents and its length are right.
+    pub(crate) fn read(file: &'a [u8]) -> Result<Layout<'a>, Refusal>
+        ensures answer { result_err result ≡ first_offence (take_tests file.now) }
+        ensures held { IfOk result (λ l. l.file.now ≡ file.now) }
+    {
+        if file.len() < 16 {
+            return Err(Refusal::Misplaced { entry: 4 });
+        }
+        let contents = Contents::read(file);
+        contents.check_counts()?;
+        contents.check_places(file.len())?;
+        Ok(Layout { file, contents })
+    }
+}
+
 // Fills the draft with the file, if its table of contents and its length are right; else leaves it.
 pub fn take<'a>(file: &'a [u8], draft: &mut Draft<'a>) -> Result<(), Refusal>
     ensures answer { result_err result ≡ first_offence (take_tests file.now) }
     ensures filled { MatchResult result (λ _. draft.new.layout.file.now ≡ file.now) (λ _. draft.new ≡ draft.old) }
     ensures legal { Legal file.now → is_ok result ≡ true }
 {
-    if file.len() < 16 {
-        return Err(Refusal::Misplaced { entry: 4 });
-    }
-    let contents = Contents::read(file);
-    contents.check_counts()?;
-    contents.check_places(file.len())?;
     *draft = Draft {
-        layout: Layout { file, contents },
+        layout: Layout::read(file)?,
     };
     Ok(())
 }
