@@ -151,6 +151,18 @@ lawful_with p es fs law few =
       row = law.row;
     }
 
+-- going through a list: an edge that counts comes next, one that does not is passed over, and where no edge is left none counts
+pub next_counts : (p : Program) (last : Option Edge) (edges : List Edge) (e : Edge) (others : List Edge) → edges ≡ e ∷ others → counts p last e ≡ true → counted_after p last edges ≡ e ∷ counted_after p (Some e) others
+next_counts p last edges e others h c = ap (counted_after p last) h ∙ counted_yes p last e others c
+
+pub next_passed : (p : Program) (last : Option Edge) (edges : List Edge) (e : Edge) (others : List Edge) → edges ≡ e ∷ others → counts p last e ≡ false → counted_after p last edges ≡ counted_after p last others
+next_passed p last edges e others h c = ap (counted_after p last) h ∙ counted_no p last e others c
+
+pub next_none : (p : Program) (last : Option Edge) (edges : List Edge) → length edges ≡ 0 → counted_after p last edges ≡ []
+unfolding counted_after
+next_none p last [] none = refl
+next_none p last (e ∷ es) none = absurd (omega arith)
+
 -- a scan of a list from place i on: past an edge that counts, past one that does not, and at the end
 pub scan_yes : (p : Program) (last : Option Edge) (es : List Edge) (i : ℕ) → i < length es → counts p last (get_or es i no_edge) ≡ true → counted_after p last (drop i es) ≡ get_or es i no_edge ∷ counted_after p (Some (get_or es i no_edge)) (drop (i + 1) es)
 scan_yes p last es i lt c = ap (counted_after p last) (drop_more es i no_edge lt) ∙ counted_yes p last (get_or es i no_edge) (drop (i + 1) es) c

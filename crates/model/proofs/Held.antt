@@ -4,7 +4,7 @@ use Rattle.std.specs.List.{AllByRecursion as All}
 use Rattle.std.proofs.lemmas.List.{append-nil, append_assoc}
 use Rattle.std.proofs.lemmas.Bool.{false≢true, both_ways, eqb-true, eq-eqb, lt-ltb, le-ltb, ltb-true, ltb-false, and_parts, and_from, or_cases, or_left, or_right, or_from, cond-true, cond-false, cases_Bool}
 use Rattle.model.specs.declared.Fact.{Fact}
-use Rattle.model.specs.Facts.{Point}
+use Rattle.model.specs.declared.Point.{Point}
 use Rattle.model.specs.Tables.{start_of, end_of, row_at, same_point, same_fact, is_held, Search, put, offer, offer_all}
 
 -- two points are the same exactly if their numbers are

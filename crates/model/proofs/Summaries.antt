@@ -2,7 +2,8 @@
 use Rattle.std.proofs.Common.{◌≡◌, ℕ, true, List, [], ◌∷◌, ◌++◌, sym, refl, subst, append_assoc}
 use Rattle.model.specs.declared.Frame.{Frame}
 use Rattle.model.specs.Access.{call_enters}
-use Rattle.model.specs.Facts.{Setting, Point, Derives, first, follow, Yields, RunIn, FactIsBad, frame_of, kind_at, enter_point, back_point, FactsSumUpRuns}
+use Rattle.model.specs.declared.Point.{Point}
+use Rattle.model.specs.Facts.{Setting, Derives, first, follow, Yields, RunIn, FactIsBad, frame_of, kind_at, enter_point, back_point, FactsSumUpRuns}
 use Rattle.model.specs.Facts.{enter as derive_enter, back as derive_back}
 use Rattle.model.specs.Runs.{Leads, returns_at, start, pass, enter, back}
 use Rattle.model.proofs.Standing.{enters_call}

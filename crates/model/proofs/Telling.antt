@@ -4,7 +4,8 @@ use Rattle.std.proofs.lemmas.List.{length-append, length-map, length_push, lengt
 use Rattle.std.proofs.lemmas.Bool.{both_ways, and_from, cases_order}
 use Rattle.model.specs.declared.Fact.{Fact}
 use Rattle.model.specs.Access.{call_enters}
-use Rattle.model.specs.Facts.{Setting, Point, Derives, Yields, kind_at, follow_point, enter_point, back_point}
+use Rattle.model.specs.declared.Point.{Point}
+use Rattle.model.specs.Facts.{Setting, Derives, Yields, kind_at, follow_point, enter_point, back_point}
 use Rattle.model.specs.Facts.{first as derive_first, follow as derive_follow, enter as derive_enter, back as derive_back}
 use Rattle.model.specs.Runs.{Leads, goes_on, returns_at}
 use Rattle.model.specs.Searches.{Sound, HeldAt, Through, fact_in, Different, Told}

@@ -3,7 +3,8 @@ use Rattle.std.proofs.Common.{◌≡◌, ℕ, ◌<◌, false, List, [], ◌∷�
 use Rattle.std.proofs.lemmas.List.{length-map, get_or-map}
 use Rattle.std.proofs.lemmas.Bool.{both_ways}
 use Rattle.model.specs.declared.Fact.{Fact}
-use Rattle.model.specs.Facts.{Setting, Point, Yields, FactIsBad}
+use Rattle.model.specs.declared.Point.{Point}
+use Rattle.model.specs.Facts.{Setting, Yields, FactIsBad}
 use Rattle.model.specs.Program.{home}
 use Rattle.model.specs.RecipeA.{history_a, stack_a}
 use Rattle.model.specs.Searches.{Through, Told, HeldAt, fact_in, trace_at}

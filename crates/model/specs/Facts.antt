@@ -3,6 +3,7 @@ use Rattle.std.specs.Prelude.{◌≡◌, ℕ, true, List, [], ◌∷◌, ◌++�
 use Rattle.model.specs.declared.Edge.{Edge}
 use Rattle.model.specs.declared.Frame.{Frame}
 use Rattle.model.specs.declared.Kind.{Kind}
+use Rattle.model.specs.declared.Point.{Point}
 use Rattle.model.specs.Access.{Rule, is_entry_of, call_enters}
 use Rattle.model.specs.Program.{Program, node_at}
 use Rattle.model.specs.Runs.{Run, reads, Leads, goes_on, returns_at}
@@ -14,12 +15,6 @@ pub record Setting : Type 0 where
   pub edges : List Edge
   pub rule : Rule
   pub watch : Watch
-
--- a node, with a value of the rule and a state of the watch
-pub record Point : Type 0 where
-  pub node : ℕ
-  pub value : ℕ
-  pub state : ℕ
 
 -- what a point's node does
 abbrev pub kind_at : Setting → Point → Kind

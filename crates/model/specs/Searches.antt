@@ -4,7 +4,8 @@ use Rattle.model.specs.declared.Fact.{Fact}
 use Rattle.model.specs.declared.Verdict.{Verdict}
 use Rattle.model.specs.declared.Verdict.TheVariants.{Safe, Unsafe, Full, Unfinished}
 use Rattle.model.specs.Access.{is_entry_of, call_enters}
-use Rattle.model.specs.Facts.{Setting, Point, Derives, Yields, RunGoesBad, kind_at}
+use Rattle.model.specs.declared.Point.{Point}
+use Rattle.model.specs.Facts.{Setting, Derives, Yields, RunGoesBad, kind_at}
 use Rattle.model.specs.Runs.{Leads, goes_on}
 use Rattle.model.specs.Tables.{start_of, end_of, row_at, hold, first_row, follow_row, enter_row, back_row, is_held, joins, Search, opened, dug, verdict_of, tale_at}
 

@@ -1,7 +1,8 @@
 -- The worked cases of the formulas and of recipe A, as one statement.
 use Rattle.std.specs.Prelude.{◌≡◌, ℕ, ◌<◌, true, false, List, [], ◌∷◌, length}
 use Rattle.model.specs.Access.{history_enter, history_back, stack_enter}
-use Rattle.model.specs.Facts.{Setting, Point, Yields, FactIsBad}
+use Rattle.model.specs.declared.Point.{Point}
+use Rattle.model.specs.Facts.{Setting, Yields, FactIsBad}
 use Rattle.model.specs.RecipeA.{history_a, stack_a}
 use Rattle.model.specs.Searches.{fact_in, Different, trace_at}
 use Rattle.model.specs.Tables.{opened, dug, first_bad}

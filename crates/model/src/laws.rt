@@ -6,43 +6,31 @@ ghost use Rattle.model.specs.Searches.{SearchLaws};
 ghost use Rattle.model.specs.Worked.{Worked};
 
 // The worked cases.
-pub fn worked_cases() -> u8
+pub fn worked_cases()
     ensures { Worked }
-{
-    0
-}
+{}
 
 // One list of nodes is the trace of at most one run.
-pub fn runs_follow_from_traces() -> u8
+pub fn runs_follow_from_traces()
     ensures { FollowsFromTrace }
-{
-    0
-}
+{}
 
 // Under the history rule the traces of runs are those of history-based access control.
-pub fn history_agrees() -> u8
+pub fn history_agrees()
     ensures { HistoryAgrees }
-{
-    0
-}
+{}
 
 // Under the rule of stack inspection the traces of runs are those of stack inspection.
-pub fn stack_agrees() -> u8
+pub fn stack_agrees()
     ensures { StackAgrees }
-{
-    0
-}
+{}
 
 // Facts sum up runs, at any length and call depth.
-pub fn facts_sum_up_runs() -> u8
+pub fn facts_sum_up_runs()
     ensures { FactsSumUpRuns }
-{
-    0
-}
+{}
 
 // An opening is sound, digging keeps that, and a sound one tells which facts are yielded and whether a run goes bad.
-pub fn tables_tell_facts() -> u8
+pub fn tables_tell_facts()
     ensures { SearchLaws }
-{
-    0
-}
+{}

@@ -7,6 +7,7 @@ pub mod Places
 pub mod Puts
 pub mod ReadBack
 pub mod Scans
+pub mod Sequences
 pub mod Smallest
 pub mod Stages
 pub mod Standing

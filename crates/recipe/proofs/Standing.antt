@@ -1,14 +1,13 @@
 -- What a recipe's ghost facts say of its program: how many records it has, what each is, that it is lawful and that its file is what is written for it.
-use Rattle.std.proofs.Common.{◌≡◌, ℕ, ◌<◌, ◌≤◌, true, map, length, Some, None, Option, sym, ap, ◌∙◌, zero-add, arith}
+use Rattle.std.proofs.Common.{◌≡◌, ℕ, ◌<◌, ◌≤◌, true, List, ◌∷◌, map, length, get_or, Some, None, Option, subst, sym, ap, ◌∙◌, zero-add, arith}
 use Rattle.std.specs.List.{slice_get, range_with_len as counting}
-use Rattle.std.proofs.lemmas.Bool.{and_parts}
 use Rattle.std.proofs.lemmas.List.FromFn.{length-map-range_with_len, get_or-map-range_with_len}
 use Rattle.std.proofs.lemmas.List.{get_or_past}
 use Rattle.std.proofs.lemmas.Option.{slice_get-get_or as nth_get_or, slice_get_past}
 use Rattle.model.specs.declared.Edge.{Edge}
 use Rattle.model.specs.Lawful.{Lawful}
-use Rattle.model.proofs.Edges.{edge_rules}
-use Rattle.model.specs.Program.{no_method, no_node, no_edge, no_row, method_at, is_edge, rises_after, counts}
+use Rattle.model.proofs.Edges.{counted_rules}
+use Rattle.model.specs.Program.{no_method, no_node, no_edge, no_row, method_at, EdgeRules, counted_after}
 use Rattle.recipe.specs.declared.Recipe.{Recipe}
 use Rattle.recipe.specs.Bytes.{method_in, node_in, edge_in, cell_in}
 use Rattle.recipe.specs.Format.{bytes_of}
@@ -73,9 +72,11 @@ cell_past_marks r row mark lt far =
     ap (λ cells. slice_get cells mark) (row_at bs row (omega arith)) ∙ slice_get_past (map f (counting 0 32)) mark (let g = length-map-range_with_len f 0 32 in omega arith)
 
 -- the ends of an edge that counts are nodes, and so they take two bytes
-pub edge_small : (r : Recipe) (last : Option Edge) (e : Edge) → counts (program r) last e ≡ true → (e.from < 65536) × (e.to < 65536)
-edge_small r last e c =
-    let rules = edge_rules (program r) e (and_parts (is_edge (program r) e) (rises_after last e) c).0 in
+pub counted_small : (r : Recipe) (last : Option Edge) (edges : List Edge) (e : Edge) (others : List Edge) → counted_after (program r) last edges ≡ e ∷ others → (e.from < 65536) × (e.to < 65536)
+counted_small r last edges e others h =
+    let some : 0 < length (counted_after (program r) last edges) = let n = ap length h in omega arith in
+    let is : get_or (counted_after (program r) last edges) 0 no_edge ≡ e = ap (λ l. get_or l 0 no_edge) h in
+    let rules = subst (EdgeRules (program r)) is (counted_rules (program r) last edges 0 some) in
     let few = (stands r).few_nodes in
     (omega arith, omega arith)
 

@@ -4,7 +4,7 @@ ghost use Rattle.std.specs.Result.{result_err};
 ghost use Rattle.recipe.specs.Bytes.{count_in, program_of};
 ghost use Rattle.recipe.specs.declared.grounds.Refusal.TheVariants.{BadMethod, BadNode, BadEdge, BadRow};
 ghost use Rattle.recipe.specs.Offence.{first_offence, each, method_test, node_test, entry_test, edge_test, row_test, take_tests, check_tests};
-ghost use Rattle.model.specs.Program.{node_at, is_return, is_edge, rises_after};
+ghost use Rattle.model.specs.Program.{node_at, is_edge, rises_after};
 ghost use Rattle.recipe.specs.Bytes.{node_in};
 ghost use Rattle.recipe.specs.Offence.{any_below, kind_fits, record_fits};
 ghost use Rattle.recipe.specs.Format.{Legal};
@@ -29,24 +29,11 @@ fn kind_fits(kind: Kind, methods: u32, rights: u32) -> bool
     }
 }
 
-// Whether a node of this kind ends its call.
-fn is_return(kind: Kind) -> bool
-    ensures { result ≡ is_return kind }
-{
-    match kind {
-        Kind::Return => true,
-        Kind::Nop | Kind::Call { .. } | Kind::Check { .. } => false,
-    }
-}
-
-// Whether e rises above the last edge that counted.
+// Whether e rises above the last edge that counted, if there is one: no edge stands below every edge.
 pub(crate) fn rises_after(last: Option<Edge>, e: Edge) -> bool
     ensures { result ≡ rises_after last e }
 {
-    match last {
-        Some(d) => d.from < e.from || (d.from == e.from && d.to < e.to),
-        None => true,
-    }
+    last < Some(e)
 }
 
 impl Layout<'_> {
@@ -129,7 +116,7 @@ impl Layout<'_> {
         ensures { result ≡ is_edge (program_of self.now.file.now) e }
     {
         let to = e.to as usize;
-        let goes_on = !is_return(self.node_at(e.from as usize).kind);
+        let goes_on = !self.node_at(e.from as usize).kind.is_return();
         goes_on && span.start <= to && to < span.end
     }
 

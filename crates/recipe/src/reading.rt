@@ -110,11 +110,7 @@ impl Recipe<'_> {
     pub fn is_entry_of(&self, method: u32, n: u32) -> bool
         ensures { result ≡ is_entry_of (program self.now) method n }
     {
-        let entry = self.node_at(n).entry;
-        match self.method_of(n) {
-            Some(home) => entry && home == method,
-            None => false,
-        }
+        self.node_at(n).entry && self.method_of(n) == Some(method)
     }
 
     // Whether e is an edge by the rules: from a node that is no return to a node of the same method.

@@ -1,7 +1,6 @@
 // Writes the file of a recipe with the edges of a list that count.
 ghost use Rattle.std.specs.Prelude.{◌≡◌, ℕ, ◌+◌, ◌*◌, ◌/◌, ◌%◌, ◌<◌, ◌≤◌, List, ◌++◌, length, take, drop};
 ghost use Rattle.std.specs.List.{flat_map};
-ghost use Rattle.model.specs.Program.{counted};
 ghost use Rattle.recipe.specs.Bytes.{program_of, edges_of};
 ghost use Rattle.recipe.specs.Format.{word, edge_bytes, contents_bytes, Legal};
 ghost use Rattle.recipe.specs.Recipes.{file_of, program, own_edges};
@@ -10,18 +9,12 @@ ghost use Rattle.recipe.specs.Writing.{listed_edges, file_with, write_answer, wr
 use crate::{Recipe, Refusal};
 use model::Edge;
 
-// The greater and the lesser byte of a number.
-fn high(n: u32) -> u8
+// A number in two bytes, the greater one first.
+fn word(n: u32) -> [u8; 2]
     requires { n < 65536 }
-    ensures { result ≡ n / 256 }
+    ensures { result ≡ word n }
 {
-    (n / 256) as u8
-}
-
-fn low(n: u32) -> u8
-    ensures { result ≡ n % 256 }
-{
-    (n % 256) as u8
+    (n as u16).to_be_bytes()
 }
 
 // The record of an edge.
@@ -29,7 +22,9 @@ fn edge_bytes(e: Edge) -> [u8; 4]
     requires { (e.from < 65536) × (e.to < 65536) }
     ensures { result ≡ edge_bytes e }
 {
-    [high(e.from), low(e.from), high(e.to), low(e.to)]
+    let [f1, f0] = word(e.from);
+    let [t1, t0] = word(e.to);
+    [f1, f0, t1, t0]
 }
 
 // The table of contents for these counts.
@@ -40,23 +35,16 @@ fn contents_bytes(methods: u32, nodes: u32, edges: u32, rows: u32) -> [u8; 16]
     let nodes_at = 16 + 4 * methods;
     let edges_at = nodes_at + 8 * nodes;
     let rows_at = edges_at + 4 * edges;
+    let [m3, m2] = word(16);
+    let [m1, m0] = word(methods);
+    let [n3, n2] = word(nodes_at);
+    let [n1, n0] = word(nodes);
+    let [e3, e2] = word(edges_at);
+    let [e1, e0] = word(edges);
+    let [r3, r2] = word(rows_at);
+    let [r1, r0] = word(rows);
     [
-        0,
-        16,
-        high(methods),
-        low(methods),
-        high(nodes_at),
-        low(nodes_at),
-        high(nodes),
-        low(nodes),
-        high(edges_at),
-        low(edges_at),
-        high(edges),
-        low(edges),
-        high(rows_at),
-        low(rows_at),
-        high(rows),
-        low(rows),
+        m3, m2, m1, m0, n3, n2, n1, n0, e3, e2, e1, e0, r3, r2, r1, r0,
     ]
 }
 
@@ -75,38 +63,18 @@ impl Recipe<'_> {
         ensures value { result ≡ length (listed_edges (program self.now) edges.now) }
         ensures bound { result ≤ 4096 }
     {
-        self.count_all(first_places(edges))
+        self.counted(edges).count()
     }
 
-    // How many of these edges count.
-    fn count_all(&self, edges: &[Edge]) -> usize
-        ensures value { result ≡ length (counted (program self.now) edges.now) }
-        ensures bound { result ≤ length edges.now }
-    {
-        let mut last = None;
-        let mut many = 0;
-        for e in edges {
-            if self.counts(last, *e) {
-                many += 1;
-                last = Some(*e);
-            }
-        }
-        many
-    }
-
-    // Puts the records of the edges that count at a place of the output, one after another.
+    // Puts the records of the edges of a list that count at a place of the output, one after another.
     fn put_edges(&self, edges: &[Edge], out: &mut [u8], at: usize)
-        requires { at + 4 * length (counted (program self.now) edges.now) ≤ length out.old }
-        ensures { out.new ≡ take at out.old ++ (flat_map edge_bytes (counted (program self.now) edges.now) ++ drop (at + 4 * length (counted (program self.now) edges.now)) out.old) }
+        requires { at + 4 * length (listed_edges (program self.now) edges.now) ≤ length out.old }
+        ensures { out.new ≡ take at out.old ++ (flat_map edge_bytes (listed_edges (program self.now) edges.now) ++ drop (at + 4 * length (listed_edges (program self.now) edges.now)) out.old) }
     {
-        let mut last = None;
         let mut place = at;
-        for e in edges {
-            if self.counts(last, *e) {
-                put(out, place, &edge_bytes(*e));
-                place += 4;
-                last = Some(*e);
-            }
+        for e in self.counted(edges) {
+            put(out, place, &edge_bytes(e));
+            place += 4;
         }
     }
 }
@@ -116,11 +84,7 @@ pub fn first_places(edges: &[Edge]) -> &[Edge]
     ensures value { result.now ≡ take 4096 edges.now }
     ensures bound { length result.now ≤ 4096 }
 {
-    if edges.len() <= 4096 {
-        edges
-    } else {
-        &edges[0..4096]
-    }
+    &edges[..edges.len().min(4096)]
 }
 
 // Writes the recipe's file with the edges of the list that count, the first 4,096 places of it being read; answers its length.
@@ -149,7 +113,7 @@ pub fn write(recipe: &Recipe, edges: &[Edge], out: &mut [u8]) -> Result<usize, R
         &contents_bytes(recipe.methods(), recipe.nodes(), many as u32, recipe.rows()),
     );
     put(out, 16, &layout.file[16..edges_at]);
-    recipe.put_edges(first_places(edges), out, edges_at);
+    recipe.put_edges(edges, out, edges_at);
     put(out, rows_to, &layout.file[rows_at..layout.file.len()]);
     Ok(needed)
 }

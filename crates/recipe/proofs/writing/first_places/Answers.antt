@@ -1,6 +1,6 @@
-use Rattle.std.proofs.Common.{sym, arith}
-use Rattle.std.proofs.lemmas.List.{take_all}
+use Rattle.std.proofs.Common.{◌∙◌, take, ap, rules}
+use Rattle.std.proofs.lemmas.List.{take_min}
 use Rattle.recipe.proofs.writing.first_places.Goals as goal
 
-pub returns-then-edges-le4096 : goal.returns-then-edges-le4096
-returns-then-edges-le4096 c = record { value = sym (take_all 4096 c.args.edges.now (omega arith)); bound = omega arith }
+pub returns-clause-value : goal.returns-clause-value
+returns-clause-value c = let m = take_min 4096 c.args.edges.now in search rules

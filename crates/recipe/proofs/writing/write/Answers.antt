@@ -1,7 +1,6 @@
 use Rattle.std.proofs.Common.{◌≡◌, ◌+◌, ◌*◌, ◌≤◌, true, false, leb, ◌++◌, length, take, drop, Ok, Err, sym, refl, ap, ◌∙◌, arith}
 use Rattle.std.proofs.lemmas.Bool.{cond-true, cond-false, le-leb, lt-leb}
 use Rattle.std.specs.List.{flat_map}
-use Rattle.model.specs.Program.{counted}
 use Rattle.recipe.specs.declared.grounds.Refusal.TheVariants.{ShortOutput}
 use Rattle.recipe.specs.Format.{edge_bytes, contents_bytes}
 use Rattle.recipe.specs.Recipes.{program}
@@ -45,9 +44,7 @@ returns c =
     let long : leb (length (file_with (program r) es)) (length c.args.out.now) ≡ true = le-leb _ _ room in
     let at = r.layout.contents.edges.place in
     let front = take at c.put-2.new.out in
-    let edges = c.put_edges.ensures
-    ∙ ap (λ l. front ++ (flat_map edge_bytes (counted (program r) l) ++ drop (at + 4 * length (counted (program r) l)) c.put-2.new.out)) c.first_places.ensures.value
-    ∙ ap (λ m. front ++ (flat_map edge_bytes (listed_edges (program r) es) ++ drop (at + 4 * m) c.put-2.new.out)) (sym k) in
+    let edges = c.put_edges.ensures ∙ ap (λ m. front ++ (flat_map edge_bytes (listed_edges (program r) es) ++ drop (at + 4 * m) c.put-2.new.out)) (sym k) in
     let all = assembled r es c.count-many.result c.args.out.now c.contents_bytes.result _ (flat_map edge_bytes (listed_edges (program r) es)) _ c.put.new.out c.put-2.new.out c.put_edges.new.out c.put-3.new.out k room
     (c.contents_bytes.ensures ∙ (λ i. contents_bytes (c.methods.ensures i) (c.nodes.ensures i) c.count-many.result (c.rows.ensures i)))
     (middle r) refl (tail r)

@@ -1,0 +1,87 @@
+// What a refusal says, in words.
+use crate::Refusal;
+use std::error::Error;
+use std::fmt;
+
+impl fmt::Display for Refusal {
+    fn fmt<W: fmt::Write>(&self, f: &mut fmt::Formatter<W>) -> fmt::Result {
+        match *self {
+            Refusal::Misplaced { entry } => explain_place(f, entry),
+            Refusal::Miscounted { entry } => explain_count(f, entry),
+            Refusal::BadMethod { method } => write!(f, "method {method}: {BAD_METHOD}"),
+            Refusal::BadNode { node } => write!(f, "node {node}: {BAD_NODE}"),
+            Refusal::BadEdge { edge } => write!(f, "edge {edge}: {BAD_EDGE}"),
+            Refusal::BadRow { row } => write!(f, "row {row}: {BAD_ROW}"),
+            Refusal::TooMany => f.write_str(TOO_MANY),
+            Refusal::OtherCounts => f.write_str(OTHER_COUNTS),
+            Refusal::UnfitTable => f.write_str(UNFIT_TABLE),
+            Refusal::NotAStep { place } => write!(
+                f,
+                "place {place}: this node is no step of the run"
+            ),
+            Refusal::StackFull { place } => write!(
+                f,
+                "place {place}: the stack has no room for this step"
+            ),
+            Refusal::ShortOutput { needed } => write!(
+                f,
+                "the output is too short: the file needs {needed} bytes"
+            ),
+        }
+    }
+}
+
+impl Error for Refusal {}
+
+const BAD_METHOD: &str =
+    "this method has no nodes, or no entry, or the node counts of the methods do not sum to the number of nodes";
+
+const BAD_NODE: &str =
+    "this node record breaks its rules (kind, mark, flags, an unused field, the callee, or a set outside its method's rights)";
+
+const BAD_EDGE: &str =
+    "this edge does not lead from a node that is no return to a node of the same method, or does not rise above the edge before it";
+
+const BAD_ROW: &str = "a cell of this row is neither a row's number nor 255";
+
+const TOO_MANY: &str = "the rule has more than 65536 values, or the watch more than 65536 states";
+
+const OTHER_COUNTS: &str =
+    "the nodes, values, states or edge places are not as many as at the opening";
+
+const UNFIT_TABLE: &str =
+    "the edge table is too short for the recipe or longer than 4096 places, or the fact table is longer than 65536";
+
+// The bodies that the entries of the table of contents are of, in their order.
+fn body(entry: u32) -> &'static str {
+    match entry {
+        0 => "methods",
+        1 => "nodes",
+        2 => "edges",
+        _ => "rows",
+    }
+}
+
+// The length counts as the entry after the last one.
+fn explain_place<W: fmt::Write>(f: &mut fmt::Formatter<W>, entry: u32) -> fmt::Result {
+    match entry {
+        0..=3 => {
+            let body = body(entry);
+            write!(
+                f,
+                "at the {body} entry: the place of this body is not where what stands before it ends"
+            )
+        }
+        _ => f.write_str(
+            "at the length: the file is shorter than its table of contents, or does not end where its last body does",
+        ),
+    }
+}
+
+fn explain_count<W: fmt::Write>(f: &mut fmt::Formatter<W>, entry: u32) -> fmt::Result {
+    let body = body(entry);
+    write!(
+        f,
+        "at the {body} entry: this count is outside its limits (1 to 256 methods, 1 to 1,024 nodes, at most 4,096 edges, at most 16 rows)"
+    )
+}
