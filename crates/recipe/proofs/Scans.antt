@@ -10,7 +10,7 @@ use Rattle.model.proofs.Sums.{offset_step, offset_mono, home_span, home_within}
 use Rattle.recipe.specs.Bytes.{count_in, method_in, node_in, edge_in, row_in, program_of, edges_of}
 use Rattle.recipe.specs.declared.spans.Span.{Span}
 use Rattle.recipe.specs.Offence.{method_test, node_test, entry_test, edge_test, edge_before, record_fits, any_below}
-use Rattle.recipe.specs.Spans.{Summed, SpanOf}
+use Rattle.recipe.specs.Spans.{Summed}
 
 pub methods_length : (bs : List ℕ) → length (program_of bs).methods ≡ count_in bs 0
 unfolding program_of
@@ -74,19 +74,21 @@ summed bs some pass = at_last (count_in bs 0) refl some
     at_last (suc k) e low = (method_told bs k (pass k (omega arith))).2 e
 
 -- a node within a span is of the span's method
-pub home_in : (bs : List ℕ) (s : Span) (n : ℕ) → SpanOf bs s → s.start ≤ n → n < s.end → home (program_of bs).methods n ≡ s.method
-home_in bs s n of low high =
-    let l = methods_length bs in
+pub home_in : (s : Span) (n : ℕ) → s.start ≤ n → n < s.end → home (program_of s.of.layout.now.file.now).methods n ≡ s.method
+home_in s n low high =
+    let ms = (program_of s.of.layout.now.file.now).methods in
+    let l = methods_length s.of.layout.now.file.now in
     let e = add-one s.method in
-    home_span (program_of bs).methods n s.method (omega arith) (rw of.1 at low) (rw (of.2, e) at high)
+    home_span ms n s.method (omega arith) (rw s.spans.1 at low) (rw (s.spans.2, e) at high)
 
 -- the test of a node, over the span that it lies in
-pub node_test_lem : (bs : List ℕ) (s : Span) (n rights : ℕ) → SpanOf bs s → s.start ≤ n → n < s.end → rights ≡ (method_in bs s.method).rights
-    → node_test bs n ≡ record_fits (count_in bs 0) rights (node_in bs n)
+pub node_test_lem : (s : Span) (n rights : ℕ) → s.start ≤ n → n < s.end → rights ≡ (method_in s.of.layout.now.file.now s.method).rights
+    → node_test s.of.layout.now.file.now n ≡ record_fits (count_in s.of.layout.now.file.now 0) rights (node_in s.of.layout.now.file.now n)
 unfolding node_test
-node_test_lem bs s n rights of low high e =
-    let h = ap (λ k. (method_at (program_of bs) k).rights) (home_in bs s n of low high) in
-    let m = ap (λ (m : Method). m.rights) (method_at_lem bs s.method of.0) in
+node_test_lem s n rights low high e =
+    let bs = s.of.layout.now.file.now in
+    let h = ap (λ k. (method_at (program_of bs) k).rights) (home_in s n low high) in
+    let m = ap (λ (m : Method). m.rights) (method_at_lem bs s.method s.spans.0) in
     ap (λ r. record_fits (count_in bs 0) r (node_in bs n)) (h ∙ m ∙ sym e)
 
 -- the nodes of each method end within the node count
@@ -118,16 +120,17 @@ edge_over f t n st en hf ht m ret lt e inside outside =
     ]
 
 -- an edge that leaves a node of a span is one by the rules where it arrives in the span and leaves no return
-pub edge_test_lem : (bs : List ℕ) (s : Span) (e : Edge) → Summed bs → SpanOf bs s → s.start ≤ e.from → e.from < s.end
-    → is_edge (program_of bs) e ≡ (leb s.start e.to && (ltb e.to s.end && not (is_return (node_at (program_of bs) e.from).kind)))
-edge_test_lem bs s e sum of low high =
+pub edge_test_lem : (s : Span) (e : Edge) → s.start ≤ e.from → e.from < s.end
+    → is_edge (program_of s.of.layout.now.file.now) e ≡ (leb s.start e.to && (ltb e.to s.end && not (is_return (node_at (program_of s.of.layout.now.file.now) e.from).kind)))
+edge_test_lem s e low high =
+    let bs = s.of.layout.now.file.now in
     let ms = (program_of bs).methods in
     let n = nodes_length bs in
     let l = methods_length bs in
     let some = add-one s.method in
-    let last = span_within bs sum s.method of.0 in
-    edge_over e.from e.to (length (program_of bs).nodes) s.start s.end (home ms e.from) (home ms e.to) s.method _ (omega arith) (home_in bs s e.from of low high)
-    (λ a b. (omega arith, home_in bs s e.to of a b))
+    let last = span_within bs s.of.sums s.method s.spans.0 in
+    edge_over e.from e.to (length (program_of bs).nodes) s.start s.end (home ms e.from) (home ms e.to) s.method _ (omega arith) (home_in s e.from low high)
+    (λ a b. (omega arith, home_in s e.to a b))
     (λ few same.
     let w = home_within ms e.to (let g = ap (offset ms) l in omega arith) in
     let x : offset ms s.method ≤ e.to = rw same at w.1 in

@@ -1,5 +1,5 @@
 -- What a recipe's ghost facts say of its program: how many records it has, what each is, that it is lawful and that its file is what is written for it.
-use Rattle.std.proofs.Common.{◌≡◌, ℕ, ◌<◌, ◌≤◌, true, List, ◌∷◌, map, length, get_or, Some, None, Option, subst, sym, ap, ◌∙◌, zero-add, arith}
+use Rattle.std.proofs.Common.{◌≡◌, ℕ, ◌<◌, ◌≤◌, List, ◌∷◌, map, length, get_or, Some, None, Option, subst, sym, ap, ◌∙◌, zero-add, arith}
 use Rattle.std.specs.List.{slice_get, range_with_len as counting}
 use Rattle.std.proofs.lemmas.List.FromFn.{length-map-range_with_len, get_or-map-range_with_len}
 use Rattle.std.proofs.lemmas.List.{get_or_past}

@@ -13,7 +13,6 @@ mod grounds;
 mod numbers;
 mod reading;
 mod records;
-mod seeking;
 mod spans;
 mod taking;
 mod words;

@@ -5,15 +5,15 @@ use Rattle.recipe.specs.Bytes.{count_in}
 use Rattle.recipe.specs.declared.grounds.Refusal.TheVariants.{BadMethod}
 use Rattle.recipe.specs.Offence.{method_test}
 use Rattle.recipe.proofs.Firsts.{each_first, each_none}
-use Rattle.recipe.proofs.Scans.{sum_more, method_test_lem}
+use Rattle.recipe.proofs.Scans.{sum_more, method_test_lem, summed}
 use Rattle.recipe.proofs.Layout.check_methods.Goals as goal
 
 pub loop-k-init : goal.loop-k-init
 unfolding offset
 loop-k-init c = (refl, omega arith, λ j h. absurd (omega arith))
 
-pub returns-then-own-lt1 : goal.returns-then-own-lt1
-returns-then-own-lt1 c =
+pub returns-then-own-lt1-clause-answer : goal.returns-then-own-lt1-clause-answer
+returns-then-own-lt1-clause-answer c =
     let bs = c.args.self.now.file.now in
     let k = c.loop-k.k in
     let lt : k < count_in bs 0 = omega arith in
@@ -32,7 +32,12 @@ loop-k-preserved c =
       below_more _ _ c.loop-k.invariant.2 (e ∙ grind (arith, nat_tests)),
     )
 
-pub returns : goal.returns
-returns c =
+pub invariant_of-result : goal.invariant_of-result
+invariant_of-result c =
+    let bs = c.args.self.now.file.now in
+    record { sums = summed bs (omega arith) (λ j h. c.loop-k.invariant.2 j (omega arith)) }
+
+pub returns-clause-answer : goal.returns-clause-answer
+returns-clause-answer c =
     let bs = c.args.self.now.file.now in
     sym (each_none (method_test bs) BadMethod (count_in bs 0) (λ j h. c.loop-k.invariant.2 j (omega arith)))

@@ -5,7 +5,7 @@ use Rattle.recipe.specs.declared.grounds.Refusal.TheVariants.{BadMethod}
 use Rattle.recipe.specs.Offence.{entry_test}
 use Rattle.recipe.proofs.Firsts.{each_first, each_none}
 use Rattle.recipe.proofs.Scans.{sum_more, span_within, entry_test_lem}
-use Rattle.recipe.proofs.Layout.check_entries.Goals as goal
+use Rattle.recipe.proofs.spans.Divided.check_entries.Goals as goal
 
 pub loop-k-init : goal.loop-k-init
 unfolding offset
@@ -13,16 +13,16 @@ loop-k-init c = (refl, λ j h. absurd (omega arith))
 
 pub has_entry-requires : goal.has_entry-requires
 has_entry-requires c =
-    let bs = c.args.self.now.file.now in
+    let bs = c.args.self.layout.now.file.now in
     let lt : c.loop-k.k < count_in bs 0 = omega arith in
     let own = ap (λ m. m.nodes) c.method-own.ensures in
     let h = sum_more bs c.loop-k.k lt in
-    let w = span_within bs c.requires c.loop-k.k lt in
+    let w = span_within bs c.args.self.sums c.loop-k.k lt in
     omega arith
 
 pub returns-then-not-has_entry : goal.returns-then-not-has_entry
 returns-then-not-has_entry c =
-    let bs = c.args.self.now.file.now in
+    let bs = c.args.self.layout.now.file.now in
     let k = c.loop-k.k in
     let lt : k < count_in bs 0 = omega arith in
     let own = ap (λ m. m.nodes) c.method-own.ensures in
@@ -31,16 +31,16 @@ returns-then-not-has_entry c =
 
 pub overflow_add-first : goal.overflow_add-first
 overflow_add-first c =
-    let bs = c.args.self.now.file.now in
+    let bs = c.args.self.layout.now.file.now in
     let lt : c.loop-k.k < count_in bs 0 = omega arith in
     let own = ap (λ m. m.nodes) c.method-own.ensures in
     let h = sum_more bs c.loop-k.k lt in
-    let w = span_within bs c.requires c.loop-k.k lt in
+    let w = span_within bs c.args.self.sums c.loop-k.k lt in
     search rules
 
 pub loop-k-preserved : goal.loop-k-preserved
 loop-k-preserved c =
-    let bs = c.args.self.now.file.now in
+    let bs = c.args.self.layout.now.file.now in
     let k = c.loop-k.k in
     let lt : k < count_in bs 0 = omega arith in
     let own = ap (λ m. m.nodes) c.method-own.ensures in
@@ -51,5 +51,5 @@ loop-k-preserved c =
 
 pub returns : goal.returns
 returns c =
-    let bs = c.args.self.now.file.now in
+    let bs = c.args.self.layout.now.file.now in
     sym (each_none (entry_test bs) BadMethod (count_in bs 0) (λ j h. c.loop-k.invariant.1 j (omega arith)))
