@@ -1,7 +1,7 @@
 // What both rules ask of the recipe.
 ghost use Rattle.std.specs.Prelude.{◌≡◌, ℕ, ◌<◌};
 ghost use Rattle.model.specs.Access.{is_return_of, set_first, set_pass};
-ghost use Rattle.model.specs.Program.{method_at, is_return, rights_of};
+ghost use Rattle.model.specs.Program.{method_at, rights_of};
 ghost use Rattle.recipe.specs.Recipes.{program};
 
 use recipe::{Kind, Recipe};
@@ -11,31 +11,14 @@ pub(crate) fn rights(recipe: &Recipe, method: u32) -> u32
     ensures answer { result ≡ (method_at (program recipe.now) method).rights }
     ensures below { result < 65536 }
 {
-    match recipe.method(method) {
-        Some(m) => m.rights,
-        None => 0,
-    }
+    recipe.method(method).map_or(0, |m| m.rights)
 }
 
 // Whether n is a return of a method.
 pub(crate) fn is_return_of(recipe: &Recipe, method: u32, n: u32) -> bool
     ensures { result ≡ is_return_of (program recipe.now) method n }
 {
-    let returns = is_return(recipe.node_at(n).kind);
-    match recipe.method_of(n) {
-        Some(home) => returns && home == method,
-        None => false,
-    }
-}
-
-// Whether a node of this kind ends its call.
-pub(crate) fn is_return(kind: Kind) -> bool
-    ensures { result ≡ is_return kind }
-{
-    match kind {
-        Kind::Return => true,
-        Kind::Nop | Kind::Call { .. } | Kind::Check { .. } => false,
-    }
+    recipe.node_at(n).kind.is_return() && recipe.method_of(n) == Some(method)
 }
 
 // Main's rights at an entry of main.
@@ -54,10 +37,10 @@ pub(crate) fn set_first(recipe: &Recipe, entry: u32) -> u32
 pub(crate) fn set_pass(recipe: &Recipe, set: u32, check: u32) -> bool
     ensures { result ≡ set_pass (program recipe.now) set check }
 {
-    match recipe.node_at(check).kind {
-        Kind::Check { required } => set < 65536 && required & set == required,
-        Kind::Nop | Kind::Call { .. } | Kind::Return => false,
-    }
+    let Kind::Check { required } = recipe.node_at(check).kind else {
+        return false;
+    };
+    set < 65536 && required & set == required
 }
 
 // The rights of the method of a node.
@@ -65,6 +48,7 @@ pub(crate) fn own_rights(recipe: &Recipe, n: u32) -> u32
     ensures answer { result ≡ rights_of (program recipe.now) n }
     ensures below { result < 65536 }
 {
+    // no map_or: what a closure says of the call in it did not reach the proof
     match recipe.method_of(n) {
         Some(home) => rights(recipe, home),
         None => 0,

@@ -1,5 +1,4 @@
 // The wall: a run must not meet both of two marks.
-ghost use Rattle.std.specs.Prelude.{◌≡◌, if◌then◌else◌, nat_eq};
 ghost use Rattle.model.specs.Watches.{wall_watch};
 
 use crate::Watch;
@@ -9,13 +8,6 @@ use crate::Watch;
 pub struct WallWatch {
     pub one: u32,
     pub two: u32,
-}
-
-// The bit, if the mark is this one.
-fn met(mark: u32, this: u32, bit: u32) -> u32
-    ensures { result ≡ (if nat_eq mark this then bit else 0) }
-{
-    if mark == this { bit } else { 0 }
 }
 
 impl Watch for WallWatch {
@@ -33,7 +25,7 @@ impl Watch for WallWatch {
         if state >= 4 || mark > 31 {
             return 0;
         }
-        state | (met(mark, self.one, 1) + met(mark, self.two, 2))
+        state | (u32::from(mark == self.one) + 2 * u32::from(mark == self.two))
     }
 
     fn bad(&self, state: u32) -> bool {

@@ -10,30 +10,26 @@ use Rattle.model.specs.Watches.{Watch}
 use Rattle.recipe.specs.declared.grounds.Refusal.{Refusal}
 use Rattle.recipe.specs.declared.grounds.Refusal.TheVariants.{NotAStep, StackFull}
 use Rattle.walker.specs.declared.stands.Stand.{Stand}
-use Rattle.walker.specs.Walking.{Walked, advance_by, replay_from, begun, replayed, step_answer, stand_at, placed}
+use Rattle.walker.specs.Walking.{Walked, advance_by, replay_from, step_answer, stand_at, placed}
 
 -- a walk by its two parts
 pub walk : {a b : Result Stand Refusal} {s t : List Frame} → a ≡ b → s ≡ t → ◌≡◌ {A = Walked} (record { at = a; stack = s }) (record { at = b; stack = t })
 walk e f = λ i. record { at = e i; stack = f i }
 
 module _ (p : Program) (es : List Edge) (R : Rule) (W : Watch) where
-  pub replay_more : (ns : List ℕ) (i : ℕ) (w : Walked) → i < length ns → replay_from p es R W (drop i ns) i w ≡ replay_from p es R W (drop (i + 1) ns) (i + 1) (advance_by p es R W w.at w.stack (get_or ns i 0) i)
+  pub replay_more : (ns : List ℕ) (i place : ℕ) (w : Walked) → i < length ns → replay_from p es R W (drop i ns) place w ≡ replay_from p es R W (drop (i + 1) ns) (place + 1) (advance_by p es R W w.at w.stack (get_or ns i 0) place)
   unfolding replay_from
-  replay_more ns i w lt = ap (λ ms. replay_from p es R W ms i w) (drop_more ns i 0 lt)
+  replay_more ns i place w lt = ap (λ ms. replay_from p es R W ms place w) (drop_more ns i 0 lt)
 
-  pub replay_end : (ns : List ℕ) (i : ℕ) (w : Walked) → length ns ≤ i → replay_from p es R W (drop i ns) i w ≡ w
+  pub replay_end : (ns : List ℕ) (i place : ℕ) (w : Walked) → length ns ≤ i → replay_from p es R W (drop i ns) place w ≡ w
   unfolding replay_from
-  replay_end ns i w far = ap (λ ms. replay_from p es R W ms i w) (drop_all i ns far)
+  replay_end ns i place w far = ap (λ ms. replay_from p es R W ms place w) (drop_all i ns far)
 
   -- a walk that was refused goes no further
   pub replay_refused : (ms : List ℕ) (i : ℕ) (e : Refusal) (stack : List Frame) → replay_from p es R W ms i (record { at = Err e; stack = stack }) ≡ record { at = Err e; stack = stack }
   unfolding replay_from
   replay_refused [] i e stack = refl
   replay_refused (m ∷ ms) i e stack = replay_refused ms (i + 1) e stack
-
-  pub replayed_some : (ns : List ℕ) (stack : List Frame) → 0 < length ns → replayed p es R W ns stack ≡ replay_from p es R W (drop 1 ns) 1 (begun p R W (get_or ns 0 0) stack)
-  replayed_some [] stack lt = absurd (omega arith)
-  replayed_some (m ∷ ms) stack lt = refl
 
 -- the answer of a step at a place is the answer at 0, with its refusal placed
 module _ (p : Program) (W : Watch) (room state m i : ℕ) where

@@ -21,7 +21,6 @@ use Rattle.walker.specs.Walking.{no_frame, leads, step_by, step_from, step_first
 
 -- the test for an edge says what it should
 pub leads_decides : (es : List Edge) (a b : ℕ) → Decides (leads es a b) (Leads es a b)
-unfolding leads
 leads_decides es a b = Decides-by_or (λ e. eqb e.from a && eqb e.to b) (λ e. e ≡ record { from = a; to = b }) (λ ds. leads ds a b) each refl (λ _ _. refl) es
   where
     each : (e : Edge) → Decides (eqb e.from a && eqb e.to b) (e ≡ record { from = a; to = b })

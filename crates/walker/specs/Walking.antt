@@ -1,5 +1,6 @@
 -- One step of the walker: where it leads from the frames in a stack, bottom first, and what the stack holds then.
-use Rattle.std.specs.Prelude.{ℕ, ◌+◌, ◌-◌, Bool, false, cond, ◌&&◌, ◌||◌, List, [], ◌∷◌, length, get_or, Some, None, Ok, Err, Option, Result, ◌==◌, nat_le, nat_lt, slice_index_or, slice_set}
+use Rattle.std.specs.Prelude.{ℕ, ◌+◌, ◌-◌, Bool, cond, ◌&&◌, List, [], ◌∷◌, length, get_or, Some, None, Ok, Err, Option, Result, ◌==◌, nat_le, nat_lt, slice_index_or, slice_set}
+use Rattle.std.specs.List.{list_any}
 use Rattle.model.specs.declared.Edge.{Edge}
 use Rattle.model.specs.declared.Frame.{Frame}
 use Rattle.model.specs.declared.Kind.{Kind}
@@ -17,9 +18,8 @@ abbrev pub no_frame : Frame
 no_frame = record { node = 0; value = 0 }
 
 -- an edge of the list leads from a to b
-unfoldable pub leads : List Edge → ℕ → ℕ → Bool
-leads [] a b = false
-leads (e ∷ es) a b = (e.from == a && e.to == b) || leads es a b
+abbrev pub leads : List Edge → ℕ → ℕ → Bool
+leads es a b = list_any (λ e. e.from == a && e.to == b) es
 
 -- the step to node m: how many frames there are then, and the top one. The top frame decides by the kind of its node; below it is the frame that a return would go back to
 abbrev pub step_by : Program → List Edge → Rule → Kind → Frame → Frame → ℕ → ℕ → Option (ℕ × Frame)

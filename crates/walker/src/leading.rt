@@ -1,30 +1,14 @@
 // Looks for an edge among those of a list that count.
-ghost use Rattle.std.specs.Prelude.{◌≡◌, ◌&&◌, ◌==◌};
+ghost use Rattle.std.specs.Prelude.{◌≡◌};
 ghost use Rattle.recipe.specs.Recipes.{program};
 ghost use Rattle.recipe.specs.Writing.{listed_edges};
 ghost use Rattle.walker.specs.Walking.{leads};
 
 use recipe::{Edge, Recipe};
 
-// Whether this edge leads from one node to another.
-fn joins(e: Edge, from: u32, to: u32) -> bool
-    ensures { result ≡ (e.from == from && e.to == to) }
-{
-    e.from == from && e.to == to
-}
-
 // Whether an edge that counts leads from one node to another.
 pub(crate) fn leads(recipe: &Recipe, edges: &[Edge], from: u32, to: u32) -> bool
     ensures { result ≡ leads (listed_edges (program recipe.now) edges.now) from to }
 {
-    let mut last = None;
-    for e in recipe::first_places(edges) {
-        if recipe.counts(last, *e) {
-            if joins(*e, from, to) {
-                return true;
-            }
-            last = Some(*e);
-        }
-    }
-    false
+    recipe.counted(edges).any(|e| e == Edge { from, to })
 }

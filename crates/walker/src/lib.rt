@@ -2,10 +2,12 @@
 #![tactic(auto)]
 
 mod leading;
+mod modelled;
 mod replaying;
 mod stands;
 mod walking;
 
-pub use replaying::{replay, replay_history, replay_stack};
+pub use modelled::Modelled;
+pub use replaying::{replay, replay_modelled};
 pub use stands::Stand;
 pub use walking::{go, start};

@@ -1,42 +1,26 @@
 // Steps of a run.
-ghost use Rattle.std.specs.Prelude.{◌≡◌, length};
-ghost use Rattle.model.specs.Runs.{reads, is_call};
+ghost use Rattle.std.specs.Prelude.{◌≡◌, [], length, take};
+ghost use Rattle.model.specs.Runs.{reads};
 ghost use Rattle.recipe.specs.Recipes.{program};
-ghost use Rattle.recipe.specs.Writing.{listed_edges};
+ghost use Rattle.rules.specs.Subjects.{setting_of};
 ghost use Rattle.walker.specs.Walking.{step_first, step_from, step_answer, step_stack, stand_at};
 
 use crate::Stand;
 use crate::leading::leads;
 use model::Frame;
-use recipe::{Edge, Kind, Recipe, Refusal};
-use rules::{AccessRule, Watch};
+use recipe::{Edge, Kind, Refusal};
+use rules::{AccessRule, Subject, Watch};
 
-// Where a run stands that has come to a node: the watch has read its mark.
-fn stand<W: Watch>(
-    recipe: &Recipe,
-    watch: &W,
-    depth: usize,
-    value: u32,
-    state: u32,
-    node: u32,
-) -> Stand
-    ensures { result ≡ stand_at (W.watching watch.now) depth (record { node = node; value = value }) ((W.watching watch.now).step state (reads (program recipe.now) node)) }
+// Where a run stands that has come to a node with its top frame: the watch has read the node's mark.
+fn stand<R: AccessRule, W: Watch>(on: &Subject<R, W>, depth: usize, state: u32, top: Frame) -> Stand
+    ensures { result ≡ stand_at (W.watching on.now.watch.now) depth top ((W.watching on.now.watch.now).step state (reads (program on.now.recipe.now) top.node)) }
 {
-    let state = watch.step(state, recipe.node_at(node).mark);
+    let state = on.step_to(state, top.node);
     Stand {
         depth,
-        value,
+        value: top.value,
         state,
-        bad: watch.bad(state),
-    }
-}
-
-fn is_call(kind: Kind) -> bool
-    ensures { result ≡ is_call kind }
-{
-    match kind {
-        Kind::Call { .. } => true,
-        Kind::Nop | Kind::Check { .. } | Kind::Return => false,
+        bad: on.watch.bad(state),
     }
 }
 
@@ -46,64 +30,56 @@ const NO_ROOM: Refusal = Refusal::StackFull { place: 0 };
 
 // Begins a run at an entry of main.
 pub fn start<R: AccessRule, W: Watch>(
-    recipe: &Recipe,
-    rule: &R,
-    watch: &W,
+    on: &Subject<R, W>,
     stack: &mut [Frame],
     node: u32,
 ) -> Result<Stand, Refusal>
-    ensures answer { result ≡ step_answer (program recipe.now) (W.watching watch.now) (step_first (program recipe.now) (R.meaning rule.now (program recipe.now)) node) (length stack.old) (W.watching watch.now).start node 0 }
-    ensures frames { stack.new ≡ step_stack (step_first (program recipe.now) (R.meaning rule.now (program recipe.now)) node) stack.old }
+    ensures answer { let X = setting_of R.meaning W.watching on.now [] in result ≡ step_answer X.program X.watch (step_first X.program X.rule node) (length stack.old) X.watch.start node 0 }
+    ensures frames { let X = setting_of R.meaning W.watching on.now [] in stack.new ≡ step_stack (step_first X.program X.rule node) stack.old }
 {
-    if !recipe.is_entry_of(0, node) {
+    if !on.recipe.is_entry_of(0, node) {
         return Err(NO_STEP);
     }
-    if stack.len() == 0 {
+    if stack.is_empty() {
         return Err(NO_ROOM);
     }
-    let value = rule.first(recipe, node);
-    stack[0] = Frame { node, value };
-    Ok(stand(recipe, watch, 1, value, watch.start(), node))
+    let top = Frame {
+        node,
+        value: on.rule.first(on.recipe, node),
+    };
+    stack[0] = top;
+    Ok(stand(on, 1, on.watch.start(), top))
 }
 
 // Goes on to a node, as the kind of the node where the run stands has it.
 pub fn go<R: AccessRule, W: Watch>(
-    recipe: &Recipe,
+    on: &Subject<R, W>,
     edges: &[Edge],
-    rule: &R,
-    watch: &W,
     stack: &mut [Frame],
     depth: usize,
     state: u32,
     node: u32,
 ) -> Result<Stand, Refusal>
-    ensures answer { result ≡ step_answer (program recipe.now) (W.watching watch.now) (step_from (program recipe.now) (listed_edges (program recipe.now) edges.now) (R.meaning rule.now (program recipe.now)) stack.old depth node) (length stack.old) state node 0 }
-    ensures frames { stack.new ≡ step_stack (step_from (program recipe.now) (listed_edges (program recipe.now) edges.now) (R.meaning rule.now (program recipe.now)) stack.old depth node) stack.old }
+    ensures answer { let X = setting_of R.meaning W.watching on.now (take 4096 edges.now) in result ≡ step_answer X.program X.watch (step_from X.program X.edges X.rule stack.old depth node) (length stack.old) state node 0 }
+    ensures frames { let X = setting_of R.meaning W.watching on.now (take 4096 edges.now) in stack.new ≡ step_stack (step_from X.program X.edges X.rule stack.old depth node) stack.old }
 {
     if depth == 0 || depth > stack.len() {
         return Err(NO_STEP);
     }
+    let recipe = on.recipe;
     let top = stack[depth - 1];
-    match (recipe.node_at(top.node).kind, node) {
+    let (depth, next) = match (recipe.node_at(top.node).kind, node) {
         (Kind::Nop, to) => {
             if !leads(recipe, edges, top.node, to) {
                 return Err(NO_STEP);
             }
-            stack[depth - 1] = Frame {
-                node: to,
-                value: top.value,
-            };
-            Ok(stand(recipe, watch, depth, top.value, state, to))
+            (depth, Frame { node: to, ..top })
         }
         (Kind::Check { .. }, to) => {
-            if !rule.pass(recipe, top.value, top.node) || !leads(recipe, edges, top.node, to) {
+            if !on.rule.pass(recipe, top.value, top.node) || !leads(recipe, edges, top.node, to) {
                 return Err(NO_STEP);
             }
-            stack[depth - 1] = Frame {
-                node: to,
-                value: top.value,
-            };
-            Ok(stand(recipe, watch, depth, top.value, state, to))
+            (depth, Frame { node: to, ..top })
         }
         (Kind::Call { callee, .. }, to) => {
             if !recipe.is_entry_of(callee, to) {
@@ -112,21 +88,23 @@ pub fn go<R: AccessRule, W: Watch>(
             if depth == stack.len() {
                 return Err(NO_ROOM);
             }
-            let value = rule.enter(recipe, top.value, top.node, to);
-            stack[depth] = Frame { node: to, value };
-            Ok(stand(recipe, watch, depth + 1, value, state, to))
+            let value = on.rule.enter(recipe, top.value, top.node, to);
+            (depth + 1, Frame { node: to, value })
         }
         (Kind::Return, to) => {
             if top.node >= recipe.nodes() || depth < 2 {
                 return Err(NO_STEP);
             }
             let call = stack[depth - 2];
-            if !is_call(recipe.node_at(call.node).kind) || !leads(recipe, edges, call.node, to) {
+            if !recipe.node_at(call.node).kind.is_call() || !leads(recipe, edges, call.node, to) {
                 return Err(NO_STEP);
             }
-            let value = rule.back(recipe, call.value, call.node, top.value, top.node);
-            stack[depth - 2] = Frame { node: to, value };
-            Ok(stand(recipe, watch, depth - 1, value, state, to))
+            let value = on
+                .rule
+                .back(recipe, call.value, call.node, top.value, top.node);
+            (depth - 1, Frame { node: to, value })
         }
-    }
+    };
+    stack[depth - 1] = next;
+    Ok(stand(on, depth, state, next))
 }
