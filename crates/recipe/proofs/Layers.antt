@@ -1,7 +1,7 @@
 -- Lists that are made of records, one after another, each of the same width: their length, and what is read of them by number. Tests at each number below n.
-use Rattle.std.proofs.Common.{◌≡◌, ℕ, zero, suc, ◌+◌, ◌*◌, ◌<◌, ◌≤◌, Bool, true, false, ◌||◌, ◌⊎◌, List, [], ◌∷◌, ◌++◌, length, get_or, unwrap_or, sym, refl, ◌∙◌, inl, inr, append_assoc, zero-add, mul-zero, mul-suc, arith, length-append}
+use Rattle.std.proofs.Common.{◌≡◌, ℕ, zero, suc, ◌+◌, ◌*◌, ◌<◌, ◌≤◌, Bool, true, false, ◌||◌, ◌⊎◌, List, [], ◌∷◌, ◌++◌, length, get_or, sym, refl, ◌∙◌, inl, inr, append_assoc, zero-add, mul-zero, mul-suc, arith, length-append}
 use Rattle.std.specs.Bool.{MatchBool}
-use Rattle.std.specs.List.{slice_get, flat_map, range_with_len, AllByRecursion as All, AllWithin, HoldsAt}
+use Rattle.std.specs.List.{flat_map, range_with_len, AllByRecursion as All, AllWithin, HoldsAt}
 use Rattle.std.proofs.lemmas.List.FromFn.{length-range_with_len, get_or-range_with_len}
 use Rattle.std.proofs.lemmas.List.{get_or-append-add, get_or_append_left}
 use Rattle.std.proofs.ByRecursion.{All-append}
@@ -80,12 +80,6 @@ any_below_some (suc n) f e = at (or_cases (f n) (any_below n f) e) (λ h. any_be
 
 pub any_below_none : (n : ℕ) (f : ℕ → Bool) → ((k : ℕ) → k < n → f k ≡ false) → any_below n f ≡ false
 any_below_none n f none = elim (cases_Bool (any_below n f)) [ inl h ↦ let w = any_below_some n f h in absurd (both_ways (f w.0) (none w.0 w.1) w.2) | inr h ↦ h ]
-
--- what is looked up by number, with what stands for none
-pub looked : {X : Type 0} (xs : List X) (k : ℕ) (d : X) → get_or xs k d ≡ unwrap_or (slice_get xs k) d
-looked [] k d = refl
-looked (x ∷ xs) zero d = refl
-looked (x ∷ xs) (suc k) d = looked xs k d
 
 -- whether a test passes at some number of a range, and whether at all of those from 0 on
 pub any_over : (first n : ℕ) (f : ℕ → Bool) (r : Bool)

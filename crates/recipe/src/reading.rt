@@ -7,8 +7,9 @@ ghost use Rattle.recipe.specs.Recipes.{program, own_edges, method_of, cell_of};
 
 use crate::Recipe;
 use crate::checking::rises_after;
+use crate::records::NO_NODE;
 use crate::spans::{Divided, Span};
-use model::{Edge, Kind, Method, Node};
+use model::{Edge, Method, Node};
 
 impl Recipe<'_> {
     // How many methods there are.
@@ -63,14 +64,7 @@ impl Recipe<'_> {
     pub fn node_at(&self, n: u32) -> Node
         ensures { result ≡ node_at (program self.now) n }
     {
-        match self.node(n) {
-            Some(node) => node,
-            None => Node {
-                kind: Kind::Return,
-                mark: 0,
-                entry: false,
-            },
-        }
+        self.node(n).unwrap_or(NO_NODE)
     }
 
     // An edge of the file.

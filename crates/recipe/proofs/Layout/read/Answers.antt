@@ -1,11 +1,6 @@
-use Rattle.std.proofs.Common.{◌≡◌, length, Some, None, Option, sym, ap, ◌∙◌, arith, rules}
-use Rattle.recipe.specs.declared.grounds.Refusal.TheVariants.{Misplaced}
-use Rattle.std.proofs.lemmas.Bool.{le-leb}
+use Rattle.std.proofs.Common.{length, sym, ap, ◌∙◌, arith}
 use Rattle.std.proofs.lemmas.Bool.Decides.{nat_tests}
-use Rattle.recipe.specs.declared.grounds.Refusal.{Refusal}
-use Rattle.recipe.specs.Bytes.{contents_in}
-use Rattle.recipe.specs.Offence.{first_offence, count_tests, place_tests, take_tests}
-use Rattle.recipe.proofs.Firsts.{offence_here, offence_past, first_of_two, second_of_two}
+use Rattle.recipe.proofs.Firsts.{offence_here}
 use Rattle.recipe.proofs.Tables.{counts_right, places_right, in_counts, in_places}
 use Rattle.recipe.proofs.Stages.{exit}
 use Rattle.recipe.proofs.Layout.read.Goals as goal

@@ -1,5 +1,5 @@
 use Rattle.std.proofs.Common.{Some, sym, ap, ◌∙◌, add-one, arith, below_more}
-use Rattle.std.proofs.lemmas.Bool.{and_left, and_right, and_from}
+use Rattle.std.proofs.lemmas.Bool.{and_left, and_right}
 use Rattle.recipe.specs.Offence.{edge_before}
 use Rattle.recipe.proofs.Firsts.{each_first, each_done}
 use Rattle.recipe.proofs.Scans.{edge_record, edge_in_span, far_edge, rises_from}

@@ -1,6 +1,4 @@
-use Rattle.std.proofs.Common.{◌≡◌, sym, ◌∙◌, arith, below_more}
-use Rattle.recipe.specs.Bytes.{count_in, node_in}
-use Rattle.recipe.specs.Offence.{node_test, record_fits}
+use Rattle.std.proofs.Common.{sym, ◌∙◌, arith, below_more}
 use Rattle.recipe.proofs.Firsts.{each_first, each_done}
 use Rattle.recipe.proofs.Scans.{node_test_lem}
 use Rattle.recipe.proofs.spans.Divided.check_nodes.Goals as goal
