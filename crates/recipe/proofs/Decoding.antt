@@ -63,7 +63,7 @@ module _ (kind flags callee grant accept : ℕ) (k : Kind) where
             | inl h ↦ told_check (eqb-true kind 2 h.0) h.1
             | inr h ↦ elim (cond_either (eqb kind 3) _ _ (Some k) h.1) [
               | inl h ↦ told_return (eqb-true kind 3 h.0) h.1
-              | inr h ↦ let h1 = h.1 in let z : ◌≡◌ {A = ℕ} 0 1 = cc in absurd (omega arith)
+              | inr h ↦ let h1 = h.1 in cc
             ]
           ]
         ]
@@ -80,7 +80,7 @@ pub record_told : (kind mark flags callee g1 g0 a1 a0 : ℕ) (n : Node) → reco
 record_told kind mark flags callee g1 g0 a1 a0 n e = split (kind_of kind flags callee (g1 * 256 + g0) (a1 * 256 + a0)) refl e
   where
     split : (o : Option Kind) → kind_of kind flags callee (g1 * 256 + g0) (a1 * 256 + a0) ≡ o → with_mark o mark flags ≡ Some n → RecordTold kind mark flags callee g1 g0 a1 a0 n
-    split None k e = let z : ◌≡◌ {A = ℕ} 0 1 = cc in absurd (omega arith)
+    split None k e = cc
     split (Some k) f e =
         let h = cond_some (ltb mark 32) _ n e in
         record {

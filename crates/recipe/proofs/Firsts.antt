@@ -17,7 +17,7 @@ offence_past t r ts e = rw e
 pub passed : (t : Bool) (r : Refusal) (ts : List (Bool × Refusal)) → first_offence ((t, r) ∷ ts) ≡ None → (t ≡ true) × (first_offence ts ≡ None)
 unfolding first_offence
 passed true r ts e = (refl, e)
-passed false r ts e = let z : ◌≡◌ {A = ℕ} 0 1 = cc in absurd (omega arith)
+passed false r ts e = cc
 
 pub offence_append : (xs ys : List (Bool × Refusal)) → first_offence (xs ++ ys) ≡ option_or (first_offence xs) (first_offence ys)
 unfolding first_offence
@@ -41,7 +41,7 @@ none_of_both xs ys e = split (first_offence xs) refl
   where
     split : (o : Option Refusal) → first_offence xs ≡ o → (first_offence xs ≡ None) × (first_offence ys ≡ None)
     split None f = (f, let h = offence_append xs ys in cc)
-    split (Some r) f = let h = offence_append xs ys in let z : ◌≡◌ {A = ℕ} 0 1 = cc in absurd (omega arith)
+    split (Some r) f = let h = offence_append xs ys in cc
 
 module _ (f : ℕ → Bool) (g : ℕ → Refusal) where
   abbrev test : ℕ → Bool × Refusal

@@ -1,4 +1,5 @@
 // Checks a draft: methods, nodes, methods lacking an entry, edges, rows, in this order.
+// Each stage goes over the numbers of its records: what is read by number and refused by number has no iterator that is plainer.
 ghost use Rattle.std.specs.Prelude.{◌≡◌, ℕ, suc, ◌+◌, ◌*◌, ◌<◌, ◌≤◌, true, ◌++◌, is_ok, IfOk, Decides, MatchResult};
 ghost use Rattle.std.specs.Result.{result_err};
 ghost use Rattle.recipe.specs.Bytes.{count_in, program_of};
@@ -10,7 +11,7 @@ ghost use Rattle.recipe.specs.Offence.{any_below, kind_fits, record_fits};
 ghost use Rattle.recipe.specs.Format.{Legal};
 
 use crate::spans::Divided;
-use crate::{Draft, Layout, Recipe, Refusal, take};
+use crate::{Draft, Layout, Recipe, Refusal};
 use model::{Edge, Kind};
 
 // Whether a node of this kind may stand in a recipe of so many methods, in a method with these rights.
@@ -182,7 +183,6 @@ pub fn read<'a>(file: &'a [u8], recipe: &mut Recipe<'a>) -> Result<(), Refusal>
     ensures filled { MatchResult result (λ _. recipe.new.layout.file.now ≡ file.now) (λ _. recipe.new ≡ recipe.old) }
     ensures legal { Decides (is_ok result) (Legal file.now) }
 {
-    let mut draft = Draft::built_in();
-    take(file, &mut draft)?;
-    check(draft, recipe)
+    let layout = Layout::read(file)?;
+    check(Draft { layout }, recipe)
 }

@@ -25,7 +25,7 @@ pub use model::{Edge, Kind, Method, Node};
 pub use taking::take;
 pub use writing::{first_places, write};
 
-// A lent file whose table of contents and length are right: four bodies without gaps.
+// A lent file whose table of contents and length are right: four bodies without gaps. Its facts are of single numbers, which arithmetic finds by itself.
 #[derive(Drop)]
 pub(crate) struct Layout<'a> {
     file: &'a [u8],

@@ -107,6 +107,7 @@ impl Recipe<'_> {
     pub fn method_of(&self, n: u32) -> Option<u32>
         ensures { result ≡ method_of (program self.now) n }
     {
+        // An if and no `then`, of whose closure the proof learns nothing that a method told it.
         if n < self.nodes() {
             Some(self.span_of(n).method as u32)
         } else {

@@ -45,6 +45,7 @@ fn node_of(bytes: &[u8]) -> Option<Node>
     requires { length bytes.now ≡ 8 }
     ensures { result ≡ record_at bytes.now 0 }
 {
+    // A part of a file is a slice, though of a length that is known.
     let [kind, mark, flags, callee, g1, g0, a1, a0] = *bytes else {
         return None;
     };

@@ -66,6 +66,7 @@ impl<'l, 'a> Span<'l, 'a> {
         ensures high { n < result.end }
     {
         let mut span = self;
+        // How many methods are passed is only known where it stops.
         while n >= span.end {
             span = span.next();
         }

@@ -16,9 +16,3 @@ returns-then-not-is_return c =
     let e = edge_test_lem c.args.self c.args.e c.requires.low c.requires.high in
     let k = c.is_return.ensures ∙ ap (λ n. is_return n.kind) c.node_at-from.ensures in
     sym (e ∙ grind (arith, nat_tests))
-
-pub returns-else-not-is_return : goal.returns-else-not-is_return
-returns-else-not-is_return c =
-    let e = edge_test_lem c.args.self c.args.e c.requires.low c.requires.high in
-    let k = c.is_return.ensures ∙ ap (λ n. is_return n.kind) c.node_at-from.ensures in
-    sym (e ∙ grind (arith, nat_tests))
