@@ -1,5 +1,5 @@
 -- What an answer of take or check says of the file's legality.
-use Rattle.std.proofs.Common.{◌≡◌, ℕ, true, List, is_ok, is_err, Some, None, Ok, Err, Decides, Result, sym, refl, ◌∙◌, arith}
+use Rattle.std.proofs.Common.{◌≡◌, ℕ, true, List, is_ok, is_err, Some, None, Ok, Err, Decides, Result, sym, refl, ◌∙◌}
 use Rattle.std.specs.Result.{result_err}
 use Rattle.recipe.specs.declared.grounds.Refusal.{Refusal}
 use Rattle.recipe.specs.Format.{Legal}
