@@ -1,20 +1,19 @@
 -- The answers of calls that are not refused.
-use Rattle.std.proofs.Common.{◌≡◌, ◌-◌, length, None, Ok, Option, sym, ap, ◌∙◌}
+use Rattle.std.proofs.Common.{◌≡◌, ◌-◌, length, Ok, sym, ap, ◌∙◌}
 use Rattle.std.proofs.lemmas.List.{length-take-le}
 use Rattle.model.specs.Tables.{Search}
-use Rattle.recipe.specs.declared.grounds.Refusal.{Refusal}
 use Rattle.inquiry.specs.declared.reports.Dug.{Dug}
 use Rattle.inquiry.specs.declared.Inquiry.{Inquiry}
-use Rattle.inquiry.specs.Calls.{answered, unless, dug_from}
+use Rattle.inquiry.specs.Calls.{Allowed, answered, unless, dug_from}
 use Rattle.inquiry.specs.Inquiries.{state_of}
 use Rattle.inquiry.proofs.Looking.{rows_fit}
 
 -- a call that is not refused gives what it gives, and leaves what it makes
-pub gives_answer : {A : Type 0} (o : Option Refusal) (a b : A) → None ≡ o → a ≡ b → Ok a ≡ answered o b
-gives_answer o a b none e = ap Ok e ∙ ap (λ x. answered x b) none
+pub gives_answer : {A : Type 0} (o : Allowed) (a b : A) → Ok tt ≡ o → a ≡ b → Ok a ≡ answered o b
+gives_answer o a b ok e = ap Ok e ∙ ap (λ x. answered x b) ok
 
-pub leaves_new : {A : Type 0} (o : Option Refusal) (a new old : A) → None ≡ o → a ≡ new → a ≡ unless o new old
-leaves_new o a new old none e = e ∙ ap (λ x. unless x new old) none
+pub leaves_new : {A : Type 0} (o : Allowed) (a new old : A) → Ok tt ≡ o → a ≡ new → a ≡ unless o new old
+leaves_new o a new old ok e = e ∙ ap (λ x. unless x new old) ok
 
 -- how many facts a table holds
 pub held_is : (t : Inquiry) → t.held ≡ length (state_of t).rows

@@ -16,7 +16,7 @@ search_is e f g = λ i. record { rows = e i; worked = f i; full = g i }
 
 -- a table that is as it was has grown by nothing
 pub grown_same : (t : Inquiry) → Grown t t
-grown_same t = record { same = refl; places = refl; more = omega arith; kept = refl; rest = refl; opening = refl; refusal = refl }
+grown_same t = record { same = refl; places = refl; more = omega arith; kept = refl; rest = refl; opening = refl; fits = refl }
 
 -- lists that are the same from a place on are so from a later one
 pub drop_later : (m n : ℕ) (xs ys : List Fact) → m ≤ n → drop m xs ≡ drop m ys → drop n xs ≡ drop n ys
@@ -36,7 +36,7 @@ grown_again {a} {b} {c} g h =
       kept = sym (take-take a.held b.held c.facts.now m) ∙ ap (take a.held) h.kept ∙ take-take a.held b.held b.facts.now m ∙ g.kept;
       rest = h.rest ∙ drop_later b.held c.held b.facts.now a.facts.now n g.rest;
       opening = h.opening ∙ g.opening;
-      refusal = h.refusal ∙ g.refusal;
+      fits = h.fits ∙ g.fits;
     }
 
 -- rows are being offered to a table: those that are left, offered to what it is now, give what all of them give, offered to what it was

@@ -1,29 +1,30 @@
 -- What the calls of an inquiry answer, and when they are refused.
-use Rattle.std.specs.Prelude.{ℕ, ◌-◌, Bool, cond, ◌&&◌, List, length, take, Some, None, Ok, Err, Option, Result, ◌==◌, nat_le}
+use Rattle.std.specs.Prelude.{ℕ, ◌-◌, Bool, cond, ◌&&◌, List, length, take, Ok, Err, Result, ◌==◌, nat_le}
 use Rattle.model.specs.declared.Edge.{Edge}
 use Rattle.model.specs.Facts.{Setting}
 use Rattle.model.specs.Tables.{Search, verdict_of}
 use Rattle.model.specs.Watches.{Watch}
 use Rattle.recipe.specs.declared.grounds.Refusal.{Refusal}
 use Rattle.recipe.specs.declared.grounds.Refusal.TheVariants.{TooMany, OtherCounts, UnfitTable}
+use Rattle.inquiry.specs.declared.Counts.{Counts}
 use Rattle.inquiry.specs.declared.Inquiry.{Inquiry}
 use Rattle.inquiry.specs.declared.Opening.{Opening}
 use Rattle.inquiry.specs.declared.reports.Dug.{Dug}
 use Rattle.inquiry.specs.declared.reports.Report.{Report}
 
+-- whether a call is allowed, and why it is refused if it is not
+abbrev pub Allowed : Type 0
+Allowed = Result (Unit {0}) Refusal
+
 -- what a call answers: what it gives, or why it is refused
-abbrev pub answered : {A : Type 0} → Option Refusal → A → Result A Refusal
-answered None a = Ok a
-answered (Some e) a = Err e
+abbrev pub answered : {A : Type 0} → Allowed → A → Result A Refusal
+answered (Ok u) a = Ok a
+answered (Err e) a = Err e
 
 -- what there is then: a new state, or, where the call is refused, the old one
-abbrev pub unless : {A : Type 0} → Option Refusal → A → A → A
-unless None new old = new
-unless (Some e) new old = old
-
--- a call that answers nothing but whether it is refused
-abbrev pub allowed_by : Option Refusal → Result (Unit {0}) Refusal
-allowed_by refusal = answered refusal tt
+abbrev pub unless : {A : Type 0} → Allowed → A → A → A
+unless (Ok u) new old = new
+unless (Err e) new old = old
 
 -- at most 65,536 values and states
 abbrev pub counts_fit : ℕ → ℕ → Bool
@@ -33,26 +34,30 @@ counts_fit values states = nat_le values 65536 && nat_le states 65536
 abbrev pub tables_fit : ℕ → ℕ → ℕ → Bool
 tables_fit own facts edges = nat_le own edges && (nat_le edges 4096 && nat_le facts 65536)
 
--- why an inquiry cannot be opened, if it cannot: the numbers of values and states come first
-abbrev pub fit_refusal : ℕ → ℕ → ℕ → ℕ → ℕ → Option Refusal
-fit_refusal values states own facts edges = cond (counts_fit values states) (cond (tables_fit own facts edges) None (Some UnfitTable)) (Some TooMany)
+-- whether an inquiry can be opened over a recipe with so many edges, and tables of so many places: the numbers of values and states come first
+abbrev pub fit_answer : Setting → ℕ → ℕ → ℕ → Allowed
+fit_answer X own facts edges = cond (counts_fit X.rule.values X.watch.states) (cond (tables_fit own facts edges) (Ok tt) (Err UnfitTable)) (Err TooMany)
 
 -- the edges of a table that an inquiry has in use
 abbrev pub in_use : Inquiry → List Edge → List Edge
 in_use i edges = take i.opening.used edges
 
--- the nodes, values, states and edge places are as many as at the opening
-abbrev pub same_counts : Opening → Setting → ℕ → Bool
-same_counts o X edges = length X.program.nodes == o.nodes && (X.rule.values == o.values && (X.watch.states == o.states && edges == o.places))
+-- what there is of: nodes, values, states and edge places
+abbrev pub counts_of : Setting → ℕ → Counts
+counts_of X edges = record { nodes = length X.program.nodes; values = X.rule.values; states = X.watch.states; places = edges }
 
--- a void inquiry refuses every call as its opening was refused
-abbrev pub void_or : Option Refusal → Option Refusal → Option Refusal
-void_or (Some e) other = Some e
-void_or None other = other
+-- two counts are the same
+abbrev pub same_counts : Counts → Counts → Bool
+same_counts a b = a.nodes == b.nodes && (a.values == b.values && (a.states == b.states && a.places == b.places))
 
--- why a dig is refused, if it is
-abbrev pub dig_refusal : Inquiry → Setting → ℕ → Option Refusal
-dig_refusal i X edges = void_or i.refusal (cond (counts_fit X.rule.values X.watch.states) (cond (same_counts i.opening X edges) None (Some OtherCounts)) (Some TooMany))
+-- a void inquiry answers every call as its opening was answered
+abbrev pub void_or : Allowed → Allowed → Allowed
+void_or (Err e) other = Err e
+void_or (Ok u) other = other
+
+-- whether a dig is allowed: the counts are not too great, and those of the opening
+abbrev pub dig_answer : Inquiry → Setting → ℕ → Allowed
+dig_answer i X edges = void_or i.fits (cond (counts_fit X.rule.values X.watch.states) (cond (same_counts (counts_of X edges) i.opening.counts) (Ok tt) (Err OtherCounts)) (Err TooMany))
 
 -- a dig answers how many facts it finished, and how many are held
 abbrev pub dug_from : Search → Search → Dug
@@ -63,5 +68,5 @@ abbrev pub report_of : Watch → Search → Report
 report_of W s = record { verdict = verdict_of W s; held = length s.rows; worked = s.worked }
 
 -- what an inquiry is opened with; a void one has no edge in use
-abbrev pub opening_of : Option Refusal → Setting → ℕ → ℕ → Opening
-opening_of refusal X own edges = record { nodes = length X.program.nodes; values = X.rule.values; states = X.watch.states; places = edges; used = unless refusal own 0 }
+abbrev pub opening_of : Allowed → Setting → ℕ → ℕ → Opening
+opening_of fits X own edges = record { counts = counts_of X edges; used = unless fits own 0 }

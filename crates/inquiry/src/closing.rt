@@ -15,12 +15,9 @@ impl Inquiry<'_> {
     fn any_bad<W: Watch>(&self, watch: &W) -> bool
         ensures { result ≡ any_bad (W.watching watch.now) (state_of self.now).rows }
     {
-        for i in 0..self.held {
-            if watch.bad(self.facts[i].state) {
-                return true;
-            }
-        }
-        false
+        self.facts[..self.held]
+            .iter()
+            .any(|fact| watch.bad(fact.state))
     }
 
     // What the facts that are held say.
@@ -40,18 +37,16 @@ impl Inquiry<'_> {
 
     // Unsafe if a held fact is bad; else full if a new fact found no place; else safe if all facts are worked.
     pub fn verdict<W: Watch>(&self, watch: &W) -> Result<Verdict, Refusal>
-        ensures answer { result ≡ answered self.now.refusal (verdict_of (W.watching watch.now) (state_of self.now)) }
+        ensures answer { result ≡ answered self.now.fits (verdict_of (W.watching watch.now) (state_of self.now)) }
         ensures right { IfOk result (Right (W.watching watch.now) self.now) }
     {
-        match self.refusal {
-            Some(refusal) => Err(refusal),
-            None => Ok(self.judge(watch)),
-        }
+        self.fits?;
+        Ok(self.judge(watch))
     }
 
     // What the inquiry comes to: its verdict, and how many facts are held and worked.
     fn report<W: Watch>(&self, watch: &W) -> Result<Report, Refusal>
-        ensures { result ≡ answered self.now.refusal (report_of (W.watching watch.now) (state_of self.now)) }
+        ensures { result ≡ answered self.now.fits (report_of (W.watching watch.now) (state_of self.now)) }
     {
         let verdict = self.verdict(watch)?;
         Ok(Report {
@@ -63,7 +58,7 @@ impl Inquiry<'_> {
 
     // Ends the inquiry, and answers what it came to. The fact table stays as it is.
     pub fn close<W: Watch>(self, watch: &W) -> Result<Report, Refusal>
-        ensures answer { result ≡ answered self.entry.refusal (report_of (W.watching watch.now) (state_of self.entry)) }
+        ensures answer { result ≡ answered self.entry.fits (report_of (W.watching watch.now) (state_of self.entry)) }
         ensures right { IfOk result (λ report. Right (W.watching watch.now) self.entry report.verdict) }
         ensures table { self.exit.0.now ≡ self.entry.facts.now }
     {
@@ -75,7 +70,7 @@ impl Inquiry<'_> {
             worked: _,
             full: _,
             opening: _,
-            refusal: _,
+            fits: _,
         } = self;
         answer
     }

@@ -1,11 +1,12 @@
 // Whether an inquiry can be opened.
-ghost use Rattle.std.specs.Prelude.{◌≡◌, length};
-ghost use Rattle.recipe.specs.Recipes.{program, own_edges};
-ghost use Rattle.inquiry.specs.Calls.{fit_refusal, allowed_by, counts_fit, tables_fit};
+ghost use Rattle.std.specs.Prelude.{◌≡◌, [], length};
+ghost use Rattle.recipe.specs.Recipes.{own_edges};
+ghost use Rattle.rules.specs.Subjects.{setting_of};
+ghost use Rattle.inquiry.specs.Calls.{fit_answer, counts_fit, tables_fit};
 
 use model::Fact;
-use recipe::{Edge, Recipe, Refusal};
-use rules::{AccessRule, Watch};
+use recipe::{Edge, Refusal};
+use rules::{AccessRule, Subject, Watch};
 
 // The most values, states and fact places that an inquiry takes, and the most edges.
 const MOST: u32 = 65536;
@@ -28,35 +29,17 @@ fn tables_fit(own: u32, facts: usize, edges: usize) -> bool
 
 // Tests a recipe, a rule, a watch and the tables for an opening.
 pub fn fit<R: AccessRule, W: Watch>(
-    recipe: &Recipe,
-    rule: &R,
-    watch: &W,
+    on: &Subject<R, W>,
     facts: &[Fact],
     edges: &[Edge],
 ) -> Result<(), Refusal>
-    ensures { result ≡ allowed_by (fit_refusal (R.meaning rule.now (program recipe.now)).values (W.watching watch.now).states (length (own_edges recipe.now)) (length facts.now) (length edges.now)) }
+    ensures { result ≡ fit_answer (setting_of R.meaning W.watching on.now []) (length (own_edges on.now.recipe.now)) (length facts.now) (length edges.now) }
 {
-    match unfit(recipe, rule, watch, facts.len(), edges.len()) {
-        None => Ok(()),
-        Some(refusal) => Err(refusal),
+    if !counts_fit(on.rule.values(on.recipe), on.watch.states()) {
+        return Err(Refusal::TooMany);
     }
-}
-
-// Why an inquiry with tables of these lengths cannot be opened, if it cannot.
-pub(crate) fn unfit<R: AccessRule, W: Watch>(
-    recipe: &Recipe,
-    rule: &R,
-    watch: &W,
-    facts: usize,
-    edges: usize,
-) -> Option<Refusal>
-    ensures { result ≡ fit_refusal (R.meaning rule.now (program recipe.now)).values (W.watching watch.now).states (length (own_edges recipe.now)) facts edges }
-{
-    if !counts_fit(rule.values(recipe), watch.states()) {
-        return Some(Refusal::TooMany);
+    if !tables_fit(on.recipe.edges(), facts.len(), edges.len()) {
+        return Err(Refusal::UnfitTable);
     }
-    if !tables_fit(recipe.edges(), facts, edges) {
-        return Some(Refusal::UnfitTable);
-    }
-    None
+    Ok(())
 }

@@ -1,6 +1,5 @@
 // Joins calls with returns, by rule 4: which facts go together, and where the next one stands.
 ghost use Rattle.std.specs.Prelude.{◌≡◌, ◌<◌, ◌≤◌, true, false};
-ghost use Rattle.model.specs.Program.{is_return};
 ghost use Rattle.model.specs.Runs.{returns_at};
 ghost use Rattle.model.specs.Tables.{joins, row_at};
 ghost use Rattle.recipe.specs.Recipes.{program};
@@ -13,37 +12,29 @@ use model::Fact;
 use recipe::Kind;
 use rules::{AccessRule, Watch};
 
-// Whether a node of this kind ends its call.
-fn is_return(kind: Kind) -> bool
-    ensures { result ≡ is_return kind }
-{
-    match kind {
-        Kind::Return => true,
-        Kind::Nop | Kind::Call { .. } | Kind::Check { .. } => false,
-    }
-}
-
-impl<R: AccessRule, W: Watch> Scene<'_, '_, '_, '_, '_, R, W> {
+impl<R: AccessRule, W: Watch> Scene<'_, R, W> {
     // Whether a node is a return.
     fn returns(&self, node: u32) -> bool
-        ensures { result ≡ returns_at (program self.now.recipe.now) node }
+        ensures { result ≡ returns_at (program self.now.on.now.recipe.now) node }
     {
-        node < self.recipe.nodes() && is_return(self.recipe.node_at(node).kind)
+        node < self.on.recipe.nodes() && self.on.recipe.node_at(node).kind.is_return()
     }
 
     // Whether a call fact and a return fact go together: the call gives the start of the other.
     fn joins(&self, call: Fact, back: Fact) -> bool
         ensures { result ≡ joins (scene_of R.meaning W.watching self.now) call back }
     {
-        let Kind::Call { callee, .. } = self.recipe.node_at(call.node).kind else {
+        let recipe = self.on.recipe;
+        let Kind::Call { callee, .. } = recipe.node_at(call.node).kind else {
             return false;
         };
         self.returns(back.node)
-            && self.step_to(call.state, back.entry) == back.seen
-            && self.recipe.is_entry_of(callee, back.entry)
+            && self.on.step_to(call.state, back.entry) == back.seen
+            && recipe.is_entry_of(callee, back.entry)
             && self
+                .on
                 .rule
-                .enter(self.recipe, call.value, call.node, back.entry)
+                .enter(recipe, call.value, call.node, back.entry)
                 == back.brought
     }
 }
@@ -59,12 +50,7 @@ impl Inquiry<'_> {
         requires { call.at ≤ self.now.held }
         ensures { FirstFrom (λ j. joins (scene_of R.meaning W.watching scene.now) call.fact (row_at self.now.facts.now j)) from call.at result }
     {
-        for j in from..call.at {
-            if scene.joins(call.fact, self.facts[j]) {
-                return Some(j);
-            }
-        }
-        None
+        (from..call.at).find(|at| scene.joins(call.fact, self.facts[*at]))
     }
 
     // The place of the next call fact before a return, if any, that goes together with it.
@@ -77,11 +63,6 @@ impl Inquiry<'_> {
         requires { back.at ≤ self.now.held }
         ensures { FirstFrom (λ j. joins (scene_of R.meaning W.watching scene.now) (row_at self.now.facts.now j) back.fact) from back.at result }
     {
-        for j in from..back.at {
-            if scene.joins(self.facts[j], back.fact) {
-                return Some(j);
-            }
-        }
-        None
+        (from..back.at).find(|at| scene.joins(self.facts[*at], back.fact))
     }
 }

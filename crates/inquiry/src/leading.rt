@@ -1,33 +1,48 @@
 // The edges of a node.
-ghost use Rattle.std.specs.Prelude.{◌≡◌, ◌<◌, ◌≤◌, [], ◌∷◌, length, MatchOption};
-ghost use Rattle.inquiry.specs.Inquiries.{ahead};
+ghost use Rattle.std.specs.Prelude.{◌≡◌};
+ghost use Rattle.model.specs.Program.{counted};
+ghost use Rattle.model.specs.Tables.{targets};
+ghost use Rattle.recipe.specs.Recipes.{program};
+ghost use Rattle.inquiry.specs.Inquiries.{left_targets};
 
-use crate::scene::{Cursor, Found, Scene};
+use crate::scene::Scene;
+use recipe::Counted;
 use rules::{AccessRule, Watch};
 
-impl Cursor {
-    // Before the first edge.
-    pub(crate) const START: Cursor = Cursor { at: 0, last: None };
+// The nodes to which the edges of a node lead, one after another.
+#[derive(Drop)]
+pub(crate) struct Targets<'s> {
+    edges: Counted<'s>,
+    node: u32,
 }
 
-impl<R: AccessRule, W: Watch> Scene<'_, '_, '_, '_, '_, R, W> {
-    // The next edge of this node that counts, if there is one.
-    pub(crate) fn next_edge(&self, cursor: Cursor, node: u32) -> Option<Found>
-        ensures { MatchOption result (ahead self.now.recipe.now self.now.edges.now cursor node ≡ []) (λ found. (ahead self.now.recipe.now self.now.edges.now cursor node ≡ found.to ∷ ahead self.now.recipe.now self.now.edges.now found.next node) × (cursor.at < found.next.at) × (found.next.at ≤ length self.now.edges.now)) }
-    {
-        let mut last = cursor.last;
-        for i in cursor.at..self.edges.len() {
-            let e = self.edges[i];
-            if self.recipe.counts(last, e) {
-                last = Some(e);
-                if e.from == node {
-                    return Some(Found {
-                        to: e.to,
-                        next: Cursor { at: i + 1, last },
-                    });
-                }
+impl Iterator for Targets<'_> {
+    type Item = u32;
+
+    ghost use Rattle.std.specs.Iterator.{YieldsFirst, item_count};
+
+    ghost next_gives = { YieldsFirst left_targets };
+
+    ghost remaining = { item_count left_targets };
+
+    fn next(&mut self) -> Option<u32> {
+        while let Some(edge) = self.edges.next() {
+            if edge.from == self.node {
+                return Some(edge.to);
             }
         }
         None
+    }
+}
+
+impl<R: AccessRule, W: Watch> Scene<'_, R, W> {
+    // Where the edges of a node lead that count.
+    pub(crate) fn targets(&self, node: u32) -> Targets<'_>
+        ensures { left_targets result ≡ targets (counted (program self.now.on.now.recipe.now) self.now.edges.now) node }
+    {
+        Targets {
+            edges: self.on.recipe.counted(self.edges),
+            node,
+        }
     }
 }

@@ -23,18 +23,24 @@ pub use model::{Fact, Verdict};
 use recipe::Refusal;
 pub use reports::{Dug, Report};
 
-// What an inquiry was opened with: how many nodes, values, states and edge places there were, and how many of these places are in use.
-#[derive(Clone, Copy)]
-pub(crate) struct Opening {
+// What there is to be of at an opening, and at each dig: nodes, values, states and edge places.
+#[derive(Clone, Copy, PartialEq, Eq)]
+pub(crate) struct Counts {
     nodes: u32,
     values: u32,
     states: u32,
     places: usize,
+}
+
+// What an inquiry was opened with: its counts, and how many of the edge places are in use.
+#[derive(Clone, Copy)]
+pub(crate) struct Opening {
+    counts: Counts,
     used: usize,
 }
 
 // An open inquiry over a lent table of facts: how many of its places may be used, how many facts are held and worked, and whether a new fact found no place.
-// It must be closed. A void one was refused at its opening, uses no place, and refuses every call.
+// It must be closed. A void one did not fit at its opening, uses no place, and refuses every call.
 pub struct Inquiry<'t> {
     facts: &'t mut [Fact],
     places: usize,
@@ -42,10 +48,11 @@ pub struct Inquiry<'t> {
     worked: usize,
     full: bool,
     opening: Opening,
-    refusal: Option<Refusal>,
+    fits: Result<(), Refusal>,
     ghost lent: { places ≤ length facts.now },
     ghost few: { places ≤ 65536 },
     ghost within: { held ≤ places },
     ghost some: { worked ≤ held },
-    ghost used: { opening.used ≤ opening.places },
+    ghost used: { opening.used ≤ opening.counts.places },
+    ghost few_used: { opening.used ≤ 4096 },
 }

@@ -6,35 +6,34 @@ ghost use Rattle.inquiry.specs.Inquiries.{state_of, Grown, scene_of};
 
 use crate::Inquiry;
 use crate::placed::Placed;
-use crate::scene::{Cursor, Scene};
+use crate::scene::Scene;
 use recipe::Kind;
 use rules::{AccessRule, Watch};
 
 impl Inquiry<'_> {
     // Rule 2: along each edge of a fact's node.
     fn follow<R: AccessRule, W: Watch>(&mut self, scene: &Scene<R, W>, from: Placed)
-        requires { from.at < 65536 }
         ensures state { state_of self.new ≡ offer_all self.old.places (state_of self.old) (follows (scene_of R.meaning W.watching scene.now) from.at from.fact) }
         ensures grown { Grown self.old self.new }
     {
-        let mut cursor = Cursor::START;
-        while let Some(found) = scene.next_edge(cursor, from.fact.node) {
-            self.offer(scene.follow_row(from, found.to));
-            cursor = found.next;
-        }
+        self.offer_each(
+            scene
+                .targets(from.fact.node)
+                .map(|to| scene.follow_row(from, to)),
+        );
     }
 
     // Rule 3: into each entry of the callee.
     fn enter<R: AccessRule, W: Watch>(&mut self, scene: &Scene<R, W>, call: Placed, callee: u32)
-        requires { call.at < 65536 }
         ensures state { state_of self.new ≡ offer_all self.old.places (state_of self.old) (enters (scene_of R.meaning W.watching scene.now) callee call.at call.fact) }
         ensures grown { Grown self.old self.new }
     {
-        for node in 0..scene.recipe.nodes() {
-            if scene.recipe.is_entry_of(callee, node) {
-                self.offer(scene.enter_row(call, node));
-            }
-        }
+        let recipe = scene.on.recipe;
+        self.offer_each(
+            (0..recipe.nodes())
+                .filter(|node| recipe.is_entry_of(callee, *node))
+                .map(|entry| scene.enter_row(call, entry)),
+        );
     }
 
     // Rule 4: from a call whose callee returned, along each edge of the call.
@@ -44,15 +43,14 @@ impl Inquiry<'_> {
         call: Placed,
         back: Placed,
     )
-        requires { (call.at < 65536) × (back.at < 65536) }
         ensures state { state_of self.new ≡ offer_all self.old.places (state_of self.old) (backs (scene_of R.meaning W.watching scene.now) call.at call.fact back.at back.fact) }
         ensures grown { Grown self.old self.new }
     {
-        let mut cursor = Cursor::START;
-        while let Some(found) = scene.next_edge(cursor, call.fact.node) {
-            self.offer(scene.back_row(call, back, found.to));
-            cursor = found.next;
-        }
+        self.offer_each(
+            scene
+                .targets(call.fact.node)
+                .map(|to| scene.back_row(call, back, to)),
+        );
     }
 
     // Rule 4 at a call: with each earlier return fact that goes together with it.
@@ -89,10 +87,14 @@ impl Inquiry<'_> {
         ensures state { state_of self.new ≡ offer_all self.old.places (state_of self.old) (offers_by (scene_of R.meaning W.watching scene.now) (state_of self.old).rows own.at own.fact (kind_at (scene_of R.meaning W.watching scene.now) (end_of own.fact))) }
         ensures grown { Grown self.old self.new }
     {
-        match scene.recipe.node_at(own.fact.node).kind {
+        match scene.on.recipe.node_at(own.fact.node).kind {
             Kind::Nop => self.follow(scene, own),
             Kind::Check { .. } => {
-                if scene.rule.pass(scene.recipe, own.fact.value, own.fact.node) {
+                if scene
+                    .on
+                    .rule
+                    .pass(scene.on.recipe, own.fact.value, own.fact.node)
+                {
                     self.follow(scene, own);
                 }
             }
@@ -136,10 +138,11 @@ impl Inquiry<'_> {
         ensures state { state_of self.new ≡ offer_all self.old.places (state_of self.old) (firsts (scene_of R.meaning W.watching scene.now)) }
         ensures grown { Grown self.old self.new }
     {
-        for node in 0..scene.recipe.nodes() {
-            if scene.recipe.is_entry_of(0, node) {
-                self.offer(scene.first_row(node));
-            }
-        }
+        let recipe = scene.on.recipe;
+        self.offer_each(
+            (0..recipe.nodes())
+                .filter(|node| recipe.is_entry_of(0, *node))
+                .map(|entry| scene.first_row(entry)),
+        );
     }
 }

@@ -7,14 +7,6 @@ use Rattle.inquiry.proofs.Inquiry.join_returns.Goals as goal
 pub loop-at-init : goal.loop-at-init
 loop-at-init g c = going_start c.args.self.now _
 
-pub come_back-requires : goal.come_back-requires
-come_back-requires g c =
-    let b = c.args.self.now in
-    let found = c.in-Some.ensures in
-    let few : b.held ≤ 65536 = omega (arith, b.within, b.few) in
-    let held : c.args.call.at < b.held = c.requires in
-    (omega arith, omega (arith, found.1))
-
 pub loop-at-preserved : goal.loop-at-preserved
 loop-at-preserved g c =
     let X = scene_of g.R.AccessRule.meaning g.W.Watch.watching c.args.scene.now in

@@ -1,10 +1,12 @@
-use Rattle.std.proofs.Common.{sym}
+use Rattle.std.proofs.Common.{◌≡◌, ℕ, true, false, rules}
+use borrow.Author.Tests.{tests}
+use Rattle.std.proofs.lemmas.Iterator.{first_from_Range}
 use Rattle.model.specs.Tables.{joins, row_at}
 use Rattle.inquiry.specs.Inquiries.{scene_of}
-use Rattle.inquiry.proofs.Looking.{none_more}
 use Rattle.inquiry.proofs.Inquiry.next_call.Goals as goal
 
-pub loop-j-preserved : goal.loop-j-preserved
-loop-j-preserved g c =
-    none_more (λ k. joins (scene_of g.R.AccessRule.meaning g.W.Watch.watching c.args.scene.now) (row_at c.args.self.now.facts.now k) c.args.back.fact)
-    c.args.from c.loop-j.j c.loop-j.invariant (sym c.if-joins.ensures)
+pub returns : goal.returns
+returns g c =
+    let X = scene_of g.R.AccessRule.meaning g.W.Watch.watching c.args.scene.now in
+    first_from_Range _ c.find.new.self _ c.find.result (λ j. joins X (row_at c.args.self.now.facts.now j) c.args.back.fact ≡ true) (λ j. joins X (row_at c.args.self.now.facts.now j) c.args.back.fact ≡ false) c.find.ensures.ran
+    (λ x q k. search (rules, tests)) (λ x q k. search (rules, tests))

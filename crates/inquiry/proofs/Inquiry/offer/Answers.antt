@@ -34,7 +34,7 @@ returns-then-held-self c =
         kept = take-set t.facts.now t.held c.args.fact;
         rest = drop-set-lt _ t.facts.now t.held c.args.fact (omega arith);
         opening = refl;
-        refusal = refl;
+        fits = refl;
       };
     }
 
@@ -44,5 +44,5 @@ returns-else-held-self c =
     let long = length-take-le t.held t.facts.now (rows_fit t) in
     record {
       state = sym (offer_past t.places (state_of t) c.args.fact c.if-self.false (sym c.place_of.ensures.found ∙ sym c.if-is_some.ensures) (omega (arith, c.if-held-self.false)));
-      grown = record { same = refl; places = refl; more = omega arith; kept = refl; rest = refl; opening = refl; refusal = refl };
+      grown = record { same = refl; places = refl; more = omega arith; kept = refl; rest = refl; opening = refl; fits = refl };
     }

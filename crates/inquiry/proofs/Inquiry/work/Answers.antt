@@ -8,7 +8,7 @@ returns-then-not-self g c =
     let grown = c.apply.ensures.grown in
     record {
       state = finished X c.args.self.now c.apply.new.self c.requires c.apply.ensures.state c.if-not-self.true;
-      grown = record { same = grown.same; places = grown.places; more = grown.more; kept = grown.kept; rest = grown.rest; opening = grown.opening; refusal = grown.refusal };
+      grown = record { same = grown.same; places = grown.places; more = grown.more; kept = grown.kept; rest = grown.rest; opening = grown.opening; fits = grown.fits };
     }
 
 pub returns-else-not-self : goal.returns-else-not-self

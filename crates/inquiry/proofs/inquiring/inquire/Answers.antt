@@ -4,9 +4,9 @@ use Rattle.inquiry.proofs.inquiring.inquire.Goals as goal
 
 pub returns : goal.returns
 returns g c =
-    let m = g.R.AccessRule.meaning c.args.rule.now in
-    let W = g.W.Watch.watching c.args.watch.now in
-    let recipe = c.args.recipe.now in
+    let m = g.R.AccessRule.meaning in
+    let w = g.W.Watch.watching in
+    let on = c.args.on.now in
     let facts = c.args.facts.now in
     let edges = c.args.edges.now in
     let k = c.args.allowed in
@@ -15,12 +15,12 @@ returns g c =
     let es = c.open-inquiry.new.edges in
     let o = c.open-inquiry.ensures in
     let d = c.dig.ensures in
-    let answer = answer_then m W recipe facts edges k i j es o.refusal o.opening o.places o.state o.edges d.state c.close.result d.grown.refusal c.close.ensures.answer in
+    let answer = answer_then m w on facts edges k i j es o.refusal o.opening o.places o.state o.edges d.state c.close.result d.grown.fits c.close.ensures.answer in
     let same = d.grown.same ∙ o.same in
     let closed = c.close.ensures.table in
     record {
       answer = answer;
-      facts = search rules ∙ table_then m W recipe facts edges k i j es o.refusal o.opening o.places o.state o.edges d.state d.grown o.rest;
+      facts = search rules ∙ table_then m w on facts edges k i j es o.refusal o.opening o.places o.state o.edges d.state d.grown o.rest;
       edges = o.edges;
-      told = told_then m W recipe facts edges k c.close.result answer;
+      told = told_then m w on facts edges k c.close.result answer;
     }

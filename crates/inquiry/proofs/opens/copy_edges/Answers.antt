@@ -1,23 +1,40 @@
-use Rattle.std.proofs.Common.{◌<◌, length, set, sym, ap, ◌∙◌, arith}
+use Rattle.std.proofs.Common.{◌≡◌, ◌+◌, ◌<◌, [], ◌∷◌, ◌++◌, length, take, drop, set, sym, ap, ◌∙◌, rules, arith}
 use Rattle.recipe.specs.Recipes.{own_edges}
-use Rattle.inquiry.proofs.Begun.{copied_more, some_edge, copied_all}
+use Rattle.recipe.specs.Sequences.{left_in_file}
+use Rattle.inquiry.proofs.Begun.{next_lt, next_rest, copied_more, copied_all}
 use Rattle.inquiry.proofs.opens.copy_edges.Goals as goal
-use Rattle.inquiry.proofs.opens.copy_edges.Goals.{in-Some, in_default}
 
-pub loop-i-preserved : goal.loop-i-preserved
-loop-i-preserved c =
+pub loop-place-init : goal.loop-place-init
+loop-place-init c =
     let own = own_edges c.args.recipe.now in
     let es = c.args.edges.now in
-    let i = c.loop-i.i in
-    let lt : i < length own = omega (arith, c.loop-i-test.true, c.edges-i-end.ensures) in
-    elim c.match-edge.branch [
-      | in-Some w ↦
-          w.edges-is ∙ ap (λ ds. set ds i w.in-Some.e) c.loop-i.invariant
-          ∙ copied_more own es i w.in-Some.e lt (omega (arith, c.requires)) (sym c.edge.ensures ∙ w.in-Some.is)
-      | in_default w ↦ absurd (some_edge own i lt (sym c.edge.ensures ∙ w.in_default.is))
-    ]
+    let it = c.into_iter-place-iterator.result in
+    let none : it.count ≡ 0 = search rules in
+    let all : left_in_file it.iter ≡ own = search rules in
+    (omega arith, all ∙ sym (ap (λ k. drop k own) none), sym (ap (λ k. take k own ++ drop k es) none))
+
+pub loop-place-preserved : goal.loop-place-preserved
+loop-place-preserved c =
+    let own = own_edges c.args.recipe.now in
+    let es = c.args.edges.now in
+    let it = c.loop-place.place-iterator in
+    let then = c.next.new.self in
+    let e = c.in-Some.edge in
+    let so = c.loop-place.invariant in
+    let next : left_in_file it.iter ≡ e ∷ left_in_file then.iter = search rules in
+    let here : c.in-Some.place ≡ it.count = search rules in
+    let one : then.count ≡ it.count + 1 = search rules in
+    let left = sym so.1 ∙ next in
+    let lt = next_lt own it.count e _ left in
+    let room = c.requires in (
+      omega arith,
+      next_rest own it.count e _ left ∙ sym (ap (λ k. drop k own) one),
+      ap (λ k. set c.loop-place.edges k e) here ∙ copied_more own it.count e _ left es c.loop-place.edges (omega arith) so.2 ∙ sym (ap (λ k. take k own ++ drop k es) one),
+    )
 
 pub returns : goal.returns
 returns c =
-    copied_all (own_edges c.args.recipe.now) c.args.edges.now c.loop-i.edges c.loop-i.i c.loop-i.invariant
-    (omega (arith, c.loop-i-test.false, c.loop-i.auto.i-end, c.edges-i-end.ensures))
+    let it = c.loop-place.place-iterator in
+    let so = c.loop-place.invariant in
+    let none : left_in_file it.iter ≡ [] = search rules in
+    copied_all (own_edges c.args.recipe.now) c.args.edges.now c.loop-place.edges it.count so.2 so.0 (sym so.1 ∙ none)

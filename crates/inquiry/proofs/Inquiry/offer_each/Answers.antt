@@ -1,0 +1,28 @@
+use Rattle.std.proofs.Common.{[], ◌∷◌, subst, sym, ap, ◌∙◌}
+use Rattle.std.specs.Iterator.{Yields}
+use Rattle.model.specs.Tables.{offer, offer_all}
+use Rattle.model.proofs.Held.{offers_nil, offers_cons, offers_append}
+use Rattle.inquiry.specs.Inquiries.{state_of}
+use Rattle.inquiry.proofs.Growing.{grown_same, grown_again}
+use Rattle.inquiry.proofs.Inquiry.offer_each.Goals as goal
+
+pub loop-row-init : goal.loop-row-init
+loop-row-init g c = let t = c.args.self.now in (sym (offers_nil t.places (state_of t)), grown_same t)
+
+pub loop-row-preserved : goal.loop-row-preserved
+loop-row-preserved g c =
+    let b = c.args.self.now in
+    let t = c.loop-row.self in
+    let row = c.in-Some.row in
+    let grown = c.loop-row.invariant.1 in (
+      c.offer.ensures.state ∙ (λ i. offer (grown.places i) (c.loop-row.invariant.0 i) row)
+          ∙ sym (offers_append b.places (state_of b) c.loop-row.yielded (row ∷ [])
+          ∙ offers_cons b.places (offer_all b.places (state_of b) c.loop-row.yielded) row []
+          ∙ offers_nil b.places (offer b.places (offer_all b.places (state_of b) c.loop-row.yielded) row)),
+      grown_again grown c.offer.ensures.grown,
+    )
+
+pub returns : goal.returns
+returns g c =
+    let from = subst (λ s. Yields g.I.Iterator.next_gives s c.loop-row.yielded c.loop-row.row-iterator) c.into_iter-row-iterator.ensures.into_iter_gives c.loop-row.yielded_by in
+    record { state = (c.loop-row.yielded, (c.next.new.self, (c.loop-row.row-iterator, from, c.in-None.ensures.steps)), c.loop-row.invariant.0); grown = c.loop-row.invariant.1 }
