@@ -1,6 +1,7 @@
 -- What a node record of eight bytes says, and that it is the bytes written for the node that it says.
 use Rattle.std.proofs.Common.{◌≡◌, ℕ, ◌+◌, ◌*◌, ◌/◌, ◌%◌, ◌<◌, Bool, true, false, cond, ◌&&◌, eqb, ltb, leb, ◌⊎◌, List, [], ◌∷◌, get_or, Some, None, Option, sym, refl, ap, ◌∙◌, subst, inl, inr, arith}
 use Rattle.std.proofs.lemmas.Bool.{ltb-true, eqb-true}
+use Rattle.std.proofs.lemmas.Option.{cond_some}
 use Rattle.std.proofs.lemmas.Bool.Decides.{nat_tests}
 use Rattle.model.specs.declared.Kind.{Kind}
 use Rattle.model.specs.declared.Kind.TheVariants.{Nop, Call, Check, Return}
@@ -12,11 +13,7 @@ use Rattle.recipe.specs.Format.{word, node_bytes}
 abbrev pub Small : List ℕ → Type 0
 Small bs = (i : ℕ) → get_or bs i 0 < 256
 
--- what a cond tells whose answer is Some
-cond_some : {A : Type 0} (b : Bool) (x y : A) → cond b (Some x) None ≡ Some y → (b ≡ true) × (x ≡ y)
-cond_some true x y e = (refl, cc)
-cond_some false x y e = let z : ◌≡◌ {A = ℕ} 0 1 = cc in absurd (omega arith)
-
+-- what a cond tells
 cond_either : {A : Type 0} (b : Bool) (o p q : Option A) → cond b o p ≡ q → ((b ≡ true) × (o ≡ q)) ⊎ ((b ≡ false) × (p ≡ q))
 cond_either true o p q e = inl (refl, e)
 cond_either false o p q e = inr (refl, e)
@@ -66,7 +63,7 @@ module _ (kind flags callee grant accept : ℕ) (k : Kind) where
             | inl h ↦ told_check (eqb-true kind 2 h.0) h.1
             | inr h ↦ elim (cond_either (eqb kind 3) _ _ (Some k) h.1) [
               | inl h ↦ told_return (eqb-true kind 3 h.0) h.1
-              | inr h ↦ let h1 = h.1 in let z : ◌≡◌ {A = ℕ} 0 1 = cc in absurd (omega arith)
+              | inr h ↦ let h1 = h.1 in cc
             ]
           ]
         ]
@@ -83,7 +80,7 @@ pub record_told : (kind mark flags callee g1 g0 a1 a0 : ℕ) (n : Node) → reco
 record_told kind mark flags callee g1 g0 a1 a0 n e = split (kind_of kind flags callee (g1 * 256 + g0) (a1 * 256 + a0)) refl e
   where
     split : (o : Option Kind) → kind_of kind flags callee (g1 * 256 + g0) (a1 * 256 + a0) ≡ o → with_mark o mark flags ≡ Some n → RecordTold kind mark flags callee g1 g0 a1 a0 n
-    split None k e = let z : ◌≡◌ {A = ℕ} 0 1 = cc in absurd (omega arith)
+    split None k e = cc
     split (Some k) f e =
         let h = cond_some (ltb mark 32) _ n e in
         record {

@@ -1,5 +1,5 @@
 -- Laws of the first offence: of two lists of tests after one another, and of one test for each number below n.
-use Rattle.std.proofs.Common.{◌≡◌, ℕ, zero, suc, ◌+◌, ◌<◌, Bool, true, false, cond, List, [], ◌∷◌, ◌++◌, map, Some, None, Option, refl, ap, ◌∙◌, add-zero, zero-add, arith}
+use Rattle.std.proofs.Common.{◌≡◌, ℕ, zero, suc, ◌+◌, ◌<◌, ◌≤◌, Bool, true, false, cond, List, [], ◌∷◌, ◌++◌, map, Some, None, Option, sym, refl, ap, ◌∙◌, add-zero, zero-add, arith}
 use Rattle.std.specs.List.{range_with_len}
 use Rattle.std.specs.Option.{option_or}
 use Rattle.recipe.specs.declared.grounds.Refusal.{Refusal}
@@ -17,7 +17,7 @@ offence_past t r ts e = rw e
 pub passed : (t : Bool) (r : Refusal) (ts : List (Bool × Refusal)) → first_offence ((t, r) ∷ ts) ≡ None → (t ≡ true) × (first_offence ts ≡ None)
 unfolding first_offence
 passed true r ts e = (refl, e)
-passed false r ts e = let z : ◌≡◌ {A = ℕ} 0 1 = cc in absurd (omega arith)
+passed false r ts e = cc
 
 pub offence_append : (xs ys : List (Bool × Refusal)) → first_offence (xs ++ ys) ≡ option_or (first_offence xs) (first_offence ys)
 unfolding first_offence
@@ -41,7 +41,7 @@ none_of_both xs ys e = split (first_offence xs) refl
   where
     split : (o : Option Refusal) → first_offence xs ≡ o → (first_offence xs ≡ None) × (first_offence ys ≡ None)
     split None f = (f, let h = offence_append xs ys in cc)
-    split (Some r) f = let h = offence_append xs ys in let z : ◌≡◌ {A = ℕ} 0 1 = cc in absurd (omega arith)
+    split (Some r) f = let h = offence_append xs ys in cc
 
 module _ (f : ℕ → Bool) (g : ℕ → Refusal) where
   abbrev test : ℕ → Bool × Refusal
@@ -74,13 +74,17 @@ module _ (f : ℕ → Bool) (g : ℕ → Refusal) where
       rw i (passes_from n (a + 1) (passed (f a) (g a) (map test (range_with_len (a + 1) n)) e).1 j (omega arith))
 
   -- the least number whose test fails is the one that is refused
-  pub each_first : (n k : ℕ) → k < n → ((j : ℕ) → j < k → f j ≡ true) → f k ≡ false → first_offence (each n f g) ≡ Some (g k)
+  pub each_first : (n k : ℕ) → k < n → ((j : ℕ) → j < k → f j ≡ true) → f k ≡ false → Some (g k) ≡ first_offence (each n f g)
   each_first n k lt before here =
       let e = zero-add k in
-      first_from n 0 k lt (λ j h. let i = zero-add j in rw i (before j h)) (rw e here) ∙ ap (λ m. Some (g m)) e
+      sym (first_from n 0 k lt (λ j h. let i = zero-add j in rw i (before j h)) (rw e here) ∙ ap (λ m. Some (g m)) e)
 
   pub each_none : (n : ℕ) → ((j : ℕ) → j < n → f j ≡ true) → first_offence (each n f g) ≡ None
   each_none n all = none_from n 0 (λ j h. let i = zero-add j in rw i (all j h))
+
+  -- where the tests passed up to the end, none is refused
+  pub each_done : (n k : ℕ) → n ≤ k → ((j : ℕ) → j < k → f j ≡ true) → None ≡ first_offence (each n f g)
+  each_done n k le all = sym (each_none n (λ j h. all j (omega arith)))
 
   pub each_passes : (n : ℕ) → first_offence (each n f g) ≡ None → (j : ℕ) → j < n → f j ≡ true
   each_passes n e j h = let i = zero-add j in rw i at (passes_from n 0 e j h)

@@ -1,6 +1,8 @@
 -- Lists that are made of records, one after another, each of the same width: their length, and what is read of them by number. Tests at each number below n.
-use Rattle.std.proofs.Common.{◌≡◌, ℕ, zero, suc, ◌+◌, ◌*◌, ◌<◌, ◌≤◌, Bool, true, false, ◌||◌, ◌⊎◌, List, [], ◌∷◌, ◌++◌, length, get_or, unwrap_or, sym, refl, ◌∙◌, inl, inr, append_assoc, mul-zero, mul-suc, arith, length-append}
-use Rattle.std.specs.List.{slice_get, flat_map, AllByRecursion as All}
+use Rattle.std.proofs.Common.{◌≡◌, ℕ, zero, suc, ◌+◌, ◌*◌, ◌<◌, ◌≤◌, Bool, true, false, ◌||◌, ◌⊎◌, List, [], ◌∷◌, ◌++◌, length, get_or, sym, refl, ◌∙◌, inl, inr, append_assoc, zero-add, mul-zero, mul-suc, arith, length-append}
+use Rattle.std.specs.Bool.{MatchBool}
+use Rattle.std.specs.List.{flat_map, range_with_len, AllByRecursion as All, AllWithin, HoldsAt}
+use Rattle.std.proofs.lemmas.List.FromFn.{length-range_with_len, get_or-range_with_len}
 use Rattle.std.proofs.lemmas.List.{get_or-append-add, get_or_append_left}
 use Rattle.std.proofs.ByRecursion.{All-append}
 use Rattle.std.proofs.lemmas.Bool.{and_from, and_parts, or_left, or_right, or_cases, cases_lt, cases_Bool, both_ways, false≢true}
@@ -79,8 +81,23 @@ any_below_some (suc n) f e = at (or_cases (f n) (any_below n f) e) (λ h. any_be
 pub any_below_none : (n : ℕ) (f : ℕ → Bool) → ((k : ℕ) → k < n → f k ≡ false) → any_below n f ≡ false
 any_below_none n f none = elim (cases_Bool (any_below n f)) [ inl h ↦ let w = any_below_some n f h in absurd (both_ways (f w.0) (none w.0 w.1) w.2) | inr h ↦ h ]
 
--- what is looked up by number, with what stands for none
-pub looked : {X : Type 0} (xs : List X) (k : ℕ) (d : X) → get_or xs k d ≡ unwrap_or (slice_get xs k) d
-looked [] k d = refl
-looked (x ∷ xs) zero d = refl
-looked (x ∷ xs) (suc k) d = looked xs k d
+-- whether a test passes at some number of a range, and whether at all of those from 0 on
+pub any_over : (first n : ℕ) (f : ℕ → Bool) (r : Bool)
+    → MatchBool r ((k : ℕ) × (k < length (range_with_len first n)) × HoldsAt (λ x. f x ≡ true) (range_with_len first n) k) (AllWithin (λ x. f x ≡ false) (range_with_len first n) 0 (length (range_with_len first n)))
+    → r ≡ any_below n (λ j. f (first + j))
+any_over first n f true (k, lt, at) =
+    let h : k < n = let l = length-range_with_len first n in omega arith in
+    sym (any_below_from n (λ j. f (first + j)) k h (rw get_or-range_with_len at (at 0)))
+any_over first n f false none =
+    let l = length-range_with_len first n in
+    sym (any_below_none n (λ j. f (first + j)) (λ k h. rw get_or-range_with_len at (none k 0 (omega arith) (omega arith))))
+
+pub all_over : (n : ℕ) (f : ℕ → Bool) (r : Bool)
+    → MatchBool r (AllWithin (λ x. f x ≡ true) (range_with_len 0 n) 0 (length (range_with_len 0 n))) ((k : ℕ) × (k < length (range_with_len 0 n)) × HoldsAt (λ x. f x ≡ false) (range_with_len 0 n) k)
+    → r ≡ all_below n f
+all_over n f true all =
+    let l = length-range_with_len 0 n in
+    sym (all_below_from n f (λ k h. rw (get_or-range_with_len, zero-add) at (all k 0 (omega arith) (omega arith))))
+all_over n f false (k, lt, at) =
+    let h : k < n = let l = length-range_with_len 0 n in omega arith in
+    sym (all_below_fails n f k h (rw (get_or-range_with_len, zero-add) at (at 0)))

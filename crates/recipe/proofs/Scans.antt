@@ -1,5 +1,5 @@
 -- The program that the bytes say, record by record, as the scans of check meet it.
-use Rattle.std.proofs.Common.{◌≡◌, ℕ, zero, suc, ◌+◌, ◌<◌, ◌≤◌, Bool, true, false, not, ◌&&◌, ◌||◌, eqb, ltb, leb, List, length, get_or, Option, unwrap_or, sym, refl, ap, ◌∙◌, inl, inr, zero-add, add-one, arith}
+use Rattle.std.proofs.Common.{◌≡◌, ℕ, zero, suc, ◌+◌, ◌<◌, ◌≤◌, Bool, true, false, not, ◌&&◌, ◌||◌, eqb, ltb, leb, List, length, get_or, Option, unwrap_or, sym, refl, ap, subst, ◌∙◌, inl, inr, zero-add, add-one, arith}
 use Rattle.std.proofs.lemmas.Bool.{cases_lt, cases_eq, and_left, le-ltb}
 use Rattle.std.proofs.lemmas.Bool.Decides.{nat_tests}
 use Rattle.std.proofs.lemmas.List.FromFn.{length-map-range_with_len, get_or-map-range_with_len}
@@ -8,9 +8,10 @@ use Rattle.model.specs.declared.Method.{Method}
 use Rattle.model.specs.Program.{no_method, no_node, no_edge, no_row, offset, home, node_at, method_at, is_edge, is_return, rises, rises_after}
 use Rattle.model.proofs.Sums.{offset_step, offset_mono, home_span, home_within}
 use Rattle.recipe.specs.Bytes.{count_in, method_in, node_in, edge_in, row_in, program_of, edges_of}
+use Rattle.recipe.specs.declared.spans.Divided.{Divided}
 use Rattle.recipe.specs.declared.spans.Span.{Span}
 use Rattle.recipe.specs.Offence.{method_test, node_test, entry_test, edge_test, edge_before, record_fits, any_below}
-use Rattle.recipe.specs.Spans.{Summed, SpanOf}
+use Rattle.recipe.specs.Spans.{Summed}
 
 pub methods_length : (bs : List ℕ) → length (program_of bs).methods ≡ count_in bs 0
 unfolding program_of
@@ -50,15 +51,12 @@ sum_more bs k lt =
     rw add-one (offset_step (program_of bs).methods k ∙ ap (λ (m : Method). offset (program_of bs).methods k + m.nodes) (method_at_lem bs k lt))
 
 -- the test of a method over the running sum
-pub method_test_lem : (bs : List ℕ) (k sum own : ℕ) → k < count_in bs 0 → sum ≡ offset (program_of bs).methods k → own ≡ (method_in bs k).nodes
-    → method_test bs k ≡ (leb 1 own && (leb (sum + own) (count_in bs 1) && (ltb (k + 1) (count_in bs 0) || eqb (sum + own) (count_in bs 1))))
+pub method_test_lem : (bs : List ℕ) (k sum : ℕ) (own : Method) → k < count_in bs 0 → sum ≡ offset (program_of bs).methods k → own ≡ method_in bs k
+    → method_test bs k ≡ (leb 1 own.nodes && (leb (sum + own.nodes) (count_in bs 1) && (ltb (k + 1) (count_in bs 0) || eqb (sum + own.nodes) (count_in bs 1))))
 unfolding method_test
 method_test_lem bs k sum own lt s o =
-    let h : offset (program_of bs).methods (suc k) ≡ sum + own = rw add-one at (sum_more bs k lt) ∙ ap₂' s o in
-    λ i. leb 1 (sym o i) && (leb (h i) (count_in bs 1) && (ltb (sym (add-one k) i) (count_in bs 0) || eqb (h i) (count_in bs 1)))
-  where
-    ap₂' : sum ≡ offset (program_of bs).methods k → own ≡ (method_in bs k).nodes → offset (program_of bs).methods k + (method_in bs k).nodes ≡ sum + own
-    ap₂' p q = cc
+    let h : offset (program_of bs).methods (suc k) ≡ sum + own.nodes = rw add-one at (sum_more bs k lt) ∙ (λ i. sym s i + (sym o i).nodes) in
+    λ i. leb 1 (sym o i).nodes && (leb (h i) (count_in bs 1) && (ltb (sym (add-one k) i) (count_in bs 0) || eqb (h i) (count_in bs 1)))
 
 -- what a method's test tells: it has nodes, the sum up to it does not pass the node count, and at the last one reaches it
 pub method_told : (bs : List ℕ) (k : ℕ) → method_test bs k ≡ true → (1 ≤ (method_in bs k).nodes) × (offset (program_of bs).methods (suc k) ≤ count_in bs 1) × (suc k ≡ count_in bs 0 → offset (program_of bs).methods (suc k) ≡ count_in bs 1)
@@ -74,30 +72,41 @@ summed bs some pass = at_last (count_in bs 0) refl some
     at_last (suc k) e low = (method_told bs k (pass k (omega arith))).2 e
 
 -- a node within a span is of the span's method
-pub home_in : (bs : List ℕ) (s : Span) (n : ℕ) → SpanOf bs s → s.start ≤ n → n < s.end → home (program_of bs).methods n ≡ s.method
-home_in bs s n of low high =
-    let l = methods_length bs in
+pub home_in : (s : Span) (n : ℕ) → s.start ≤ n → n < s.end → home (program_of s.of.layout.now.file.now).methods n ≡ s.method
+home_in s n low high =
+    let ms = (program_of s.of.layout.now.file.now).methods in
+    let l = methods_length s.of.layout.now.file.now in
     let e = add-one s.method in
-    home_span (program_of bs).methods n s.method (omega arith) (rw of.1 at low) (rw (of.2, e) at high)
+    home_span ms n s.method (omega arith) (rw s.spans.1 at low) (rw (s.spans.2, e) at high)
 
--- the test of a node, over the span that it lies in
-pub node_test_lem : (bs : List ℕ) (s : Span) (n rights : ℕ) → SpanOf bs s → s.start ≤ n → n < s.end → rights ≡ (method_in bs s.method).rights
-    → node_test bs n ≡ record_fits (count_in bs 0) rights (node_in bs n)
+-- the test of a node of a divided layout, over the span that it lies in
+pub node_test_lem : (s : Span) (d : Divided) (n rights : ℕ) → s.of ≡ d → s.start ≤ n → n < s.end → rights ≡ (method_in s.of.layout.now.file.now s.method).rights
+    → node_test d.layout.now.file.now n ≡ record_fits (count_in d.layout.now.file.now 0) rights (node_in d.layout.now.file.now n)
 unfolding node_test
-node_test_lem bs s n rights of low high e =
-    let h = ap (λ k. (method_at (program_of bs) k).rights) (home_in bs s n of low high) in
-    let m = ap (λ (m : Method). m.rights) (method_at_lem bs s.method of.0) in
-    ap (λ r. record_fits (count_in bs 0) r (node_in bs n)) (h ∙ m ∙ sym e)
+node_test_lem s d n rights same low high e =
+    let bs = s.of.layout.now.file.now in
+    let h = ap (λ k. (method_at (program_of bs) k).rights) (home_in s n low high) in
+    let m = ap (λ (m : Method). m.rights) (method_at_lem bs s.method s.spans.0) in
+    let t : node_test bs n ≡ record_fits (count_in bs 0) rights (node_in bs n) = ap (λ r. record_fits (count_in bs 0) r (node_in bs n)) (h ∙ m ∙ sym e) in
+    subst (λ (d : Divided). node_test d.layout.now.file.now n ≡ record_fits (count_in d.layout.now.file.now 0) rights (node_in d.layout.now.file.now n)) same t
 
 -- the nodes of each method end within the node count
 pub span_within : (bs : List ℕ) → Summed bs → (k : ℕ) → k < count_in bs 0 → offset (program_of bs).methods (k + 1) ≤ count_in bs 1
 span_within bs sum k lt = let h = offset_mono (program_of bs).methods (k + 1) (count_in bs 0) (omega arith) in omega arith
 
--- the test of a method's entries, over its first node and its node count
-pub entry_test_lem : (bs : List ℕ) (k first own : ℕ) → first ≡ offset (program_of bs).methods k → own ≡ (method_in bs k).nodes
-    → entry_test bs k ≡ any_below own (λ j. (node_at (program_of bs) (first + j)).entry)
+pub method_within : (d : Divided) (k first : ℕ) (own : Method) → k < count_in d.layout.now.file.now 0 → first ≡ offset (program_of d.layout.now.file.now).methods k → own ≡ method_in d.layout.now.file.now k → first + own.nodes ≤ count_in d.layout.now.file.now 1
+method_within d k first own lt f o =
+    let bs = d.layout.now.file.now in
+    let n = ap (λ (m : Method). m.nodes) o in
+    let h = sum_more bs k lt in
+    let w = span_within bs d.sums k lt in
+    omega arith
+
+-- the test of a method's entries, over its first node and its record
+pub entry_test_lem : (bs : List ℕ) (k first : ℕ) (own : Method) → first ≡ offset (program_of bs).methods k → own ≡ method_in bs k
+    → entry_test bs k ≡ any_below own.nodes (λ j. (node_at (program_of bs) (first + j)).entry)
 unfolding entry_test
-entry_test_lem bs k first own f o = λ i. any_below (sym o i) (λ j. (node_at (program_of bs) (sym f i + j)).entry)
+entry_test_lem bs k first own f o = λ i. any_below (sym o i).nodes (λ j. (node_at (program_of bs) (sym f i + j)).entry)
 
 -- the test of an edge from f to t, whose homes are hf and ht, over the span from st to en of the method m that f is of
 edge_over : (f t n st en hf ht m : ℕ) (ret : Bool) → f < n → hf ≡ m → ((st ≤ t) → (t < en) → (t < n) × (ht ≡ m)) → (t < n → ht ≡ m → (st ≤ t) × (t < en))
@@ -118,16 +127,17 @@ edge_over f t n st en hf ht m ret lt e inside outside =
     ]
 
 -- an edge that leaves a node of a span is one by the rules where it arrives in the span and leaves no return
-pub edge_test_lem : (bs : List ℕ) (s : Span) (e : Edge) → Summed bs → SpanOf bs s → s.start ≤ e.from → e.from < s.end
-    → is_edge (program_of bs) e ≡ (leb s.start e.to && (ltb e.to s.end && not (is_return (node_at (program_of bs) e.from).kind)))
-edge_test_lem bs s e sum of low high =
+pub edge_test_lem : (s : Span) (e : Edge) → s.start ≤ e.from → e.from < s.end
+    → is_edge (program_of s.of.layout.now.file.now) e ≡ (leb s.start e.to && (ltb e.to s.end && not (is_return (node_at (program_of s.of.layout.now.file.now) e.from).kind)))
+edge_test_lem s e low high =
+    let bs = s.of.layout.now.file.now in
     let ms = (program_of bs).methods in
     let n = nodes_length bs in
     let l = methods_length bs in
     let some = add-one s.method in
-    let last = span_within bs sum s.method of.0 in
-    edge_over e.from e.to (length (program_of bs).nodes) s.start s.end (home ms e.from) (home ms e.to) s.method _ (omega arith) (home_in bs s e.from of low high)
-    (λ a b. (omega arith, home_in bs s e.to of a b))
+    let last = span_within bs s.of.sums s.method s.spans.0 in
+    edge_over e.from e.to (length (program_of bs).nodes) s.start s.end (home ms e.from) (home ms e.to) s.method _ (omega arith) (home_in s e.from low high)
+    (λ a b. (omega arith, home_in s e.to a b))
     (λ few same.
     let w = home_within ms e.to (let g = ap (offset ms) l in omega arith) in
     let x : offset ms s.method ≤ e.to = rw same at w.1 in
@@ -135,10 +145,16 @@ edge_test_lem bs s e sum of low high =
     let z = ap (offset ms) some in
     (omega arith, omega arith))
 
--- the test of an edge record, over the edge and the one before it
+-- the test of an edge record, over the edge and the one before it; and the same where a span says whether it is an edge
 pub edge_record : (bs : List ℕ) (i : ℕ) (last : Option Edge) (e : Edge) → e ≡ edge_in bs i → last ≡ edge_before bs i → edge_test bs i ≡ (is_edge (program_of bs) e && rises_after last e)
 unfolding edge_test
 edge_record bs i last e f g = λ t. is_edge (program_of bs) (sym f t) && rises_after (sym g t) (sym f t)
+
+pub edge_in_span : (s : Span) (d : Divided) (i : ℕ) (last : Option Edge) (e : Edge) (fits : Bool) → s.of ≡ d → e ≡ edge_in d.layout.now.file.now i → last ≡ edge_before d.layout.now.file.now i
+    → fits ≡ is_edge (program_of s.of.layout.now.file.now) e → edge_test d.layout.now.file.now i ≡ (fits && rises_after last e)
+edge_in_span s d i last e fits same f g h =
+    let k = h ∙ ap (λ (d : Divided). is_edge (program_of d.layout.now.file.now) e) same in
+    edge_record d.layout.now.file.now i last e f g ∙ ap (λ b. b && rises_after last e) (sym k)
 
 -- no edge leaves from past the last node
 pub far_edge : (bs : List ℕ) (e : Edge) → count_in bs 1 ≤ e.from → is_edge (program_of bs) e ≡ false

@@ -2,11 +2,7 @@
 use Rattle.std.proofs.Common.{ℕ, zero, suc, ◌<◌, [], refl, arith}
 use Rattle.model.specs.Lawful.{Lawful, MethodRules, NodeRules}
 use Rattle.model.specs.Program.{offset, node_at, rights_of}
-use Rattle.recipe.specs.Bytes.{byte_at}
-use Rattle.recipe.specs.Format.{bytes_of}
 use Rattle.recipe.specs.Recipes.{smallest}
-use Rattle.recipe.proofs.ReadBack.{bytes_small, check_passes}
-use Rattle.recipe.proofs.WriteBack.{Checked, checked}
 
 smallest_method : (k : ℕ) → k < 1 → MethodRules smallest k
 unfolding offset
@@ -33,9 +29,3 @@ smallest_lawful = record {
   rising = λ i h. absurd (omega arith);
   row = λ i h. absurd (omega arith);
 }
-
-pub smallest_small : (i : ℕ) → byte_at (bytes_of smallest []) i < 256
-smallest_small = bytes_small smallest [] smallest_lawful
-
-pub smallest_checked : Checked (bytes_of smallest [])
-smallest_checked = checked (bytes_of smallest []) (check_passes smallest [] smallest_lawful)

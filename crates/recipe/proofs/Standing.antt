@@ -1,5 +1,5 @@
 -- What a recipe's ghost facts say of its program: how many records it has, what each is, that it is lawful and that its file is what is written for it.
-use Rattle.std.proofs.Common.{◌≡◌, ℕ, ◌<◌, ◌≤◌, true, List, ◌∷◌, map, length, get_or, Some, None, Option, subst, sym, ap, ◌∙◌, zero-add, arith}
+use Rattle.std.proofs.Common.{◌≡◌, ℕ, ◌<◌, ◌≤◌, List, ◌∷◌, map, length, get_or, Some, None, Option, subst, sym, ap, ◌∙◌, zero-add, arith}
 use Rattle.std.specs.List.{slice_get, range_with_len as counting}
 use Rattle.std.proofs.lemmas.List.FromFn.{length-map-range_with_len, get_or-map-range_with_len}
 use Rattle.std.proofs.lemmas.List.{get_or_past}
@@ -16,16 +16,10 @@ use Rattle.recipe.specs.Spans.{Summed}
 use Rattle.recipe.proofs.Places.{laid}
 use Rattle.recipe.proofs.ReadBack.{rights_small}
 use Rattle.recipe.proofs.Scans.{methods_length, nodes_length, edges_length, rows_length, method_at_lem, edge_at, row_at, summed}
-use Rattle.recipe.proofs.WriteBack.{Checked, node_some, lawful, written}
+use Rattle.recipe.proofs.WriteBack.{Checked, checked, node_some, lawful, written}
 
 pub passes : (r : Recipe) → Checked (file_of r)
-passes r = record {
-  methods = λ k h. r.methods_pass k (omega arith);
-  nodes = λ n h. r.nodes_pass n (omega arith);
-  entries = λ k h. r.entries_pass k (omega arith);
-  edges = λ i h. r.edges_pass i (omega arith);
-  rows = λ i h. r.rows_pass i (omega arith);
-}
+passes r = checked (file_of r) r.passes
 
 pub sums : (r : Recipe) → Summed (file_of r)
 sums r = summed (file_of r) (omega arith) (passes r).methods

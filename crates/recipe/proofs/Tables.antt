@@ -1,9 +1,11 @@
 -- What a table of contents says that take's tests pass.
-use Rattle.std.proofs.Common.{◌≡◌, ℕ, ◌≤◌, None}
-use Rattle.std.proofs.lemmas.Bool.{leb-true, eqb-true, and_parts}
+use Rattle.std.proofs.Common.{◌≡◌, ℕ, ◌≤◌, List, ◌++◌, length, Some, None, sym, ap, ◌∙◌}
+use Rattle.std.proofs.lemmas.Bool.{le-leb, leb-true, eqb-true, and_parts}
+use Rattle.recipe.specs.Bytes.{contents_in}
 use Rattle.recipe.specs.declared.contents.Contents.{Contents}
-use Rattle.recipe.specs.Offence.{first_offence, ends, count_tests, place_tests}
-use Rattle.recipe.proofs.Firsts.{passed}
+use Rattle.recipe.specs.declared.grounds.Refusal.{Refusal}
+use Rattle.recipe.specs.Offence.{first_offence, ends, count_tests, place_tests, take_tests}
+use Rattle.recipe.proofs.Firsts.{passed, offence_past, first_of_two, second_of_two}
 
 pub record Counted (c : Contents) : Type 0 where
   pub some_methods : 1 ≤ c.methods.count
@@ -51,3 +53,14 @@ places_right c len e =
       rows = eqb-true _ _ s.0;
       end = eqb-true _ _ t.0;
     }
+
+-- take's stages after one another, where the file holds this table of contents: the counts, and then the places
+module _ (bs : List ℕ) (c : Contents) (here : c ≡ contents_in bs) (long : 16 ≤ length bs) where
+  stages : first_offence (take_tests bs) ≡ first_offence (count_tests c ++ place_tests c (length bs))
+  stages = offence_past _ _ _ (le-leb 16 (length bs) long) ∙ ap (λ (c : Contents). first_offence (count_tests c ++ place_tests c (length bs))) (sym here)
+
+  pub in_counts : (r : Refusal) → Some r ≡ first_offence (count_tests c) → Some r ≡ first_offence (take_tests bs)
+  in_counts r e = sym (stages ∙ first_of_two _ _ r (sym e))
+
+  pub in_places : None ≡ first_offence (count_tests c) → first_offence (place_tests c (length bs)) ≡ first_offence (take_tests bs)
+  in_places e = sym (stages ∙ second_of_two _ _ (sym e))

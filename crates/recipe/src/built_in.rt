@@ -3,7 +3,6 @@ ghost use Rattle.std.specs.Prelude.{◌≡◌, []};
 ghost use Rattle.recipe.specs.Format.{bytes_of};
 ghost use Rattle.recipe.specs.Recipes.{smallest, draft_of, file_of};
 
-use crate::contents::{Body, Contents};
 use crate::{Draft, Layout, Recipe};
 
 // One method with no rights and one node, an entry that returns.
@@ -11,24 +10,14 @@ static SMALLEST: [u8; 28] = [
     0, 16, 0, 1, 0, 20, 0, 1, 0, 28, 0, 0, 0, 28, 0, 0, 0, 0, 0, 1, 3, 0, 1, 0, 0, 0, 0, 0,
 ];
 
-const CONTENTS: Contents = Contents {
-    methods: Body {
-        place: 16,
-        count: 1,
-    },
-    nodes: Body {
-        place: 20,
-        count: 1,
-    },
-    edges: Body {
-        place: 28,
-        count: 0,
-    },
-    rows: Body {
-        place: 28,
-        count: 0,
-    },
-};
+impl<'a> Layout<'a> {
+    // The layout of the smallest recipe.
+    fn built_in() -> Layout<'a>
+        ensures { result.file.now ≡ bytes_of smallest [] }
+    {
+        Layout::read(&SMALLEST).unwrap()
+    }
+}
 
 impl<'a> Draft<'a> {
     // The draft of the smallest recipe.
@@ -36,10 +25,7 @@ impl<'a> Draft<'a> {
         ensures { draft_of result ≡ bytes_of smallest [] }
     {
         Draft {
-            layout: Layout {
-                file: &SMALLEST,
-                contents: CONTENTS,
-            },
+            layout: Layout::built_in(),
         }
     }
 }
@@ -50,10 +36,7 @@ impl<'a> Recipe<'a> {
         ensures { file_of result ≡ bytes_of smallest [] }
     {
         Recipe {
-            layout: Layout {
-                file: &SMALLEST,
-                contents: CONTENTS,
-            },
+            layout: Layout::built_in(),
         }
     }
 }

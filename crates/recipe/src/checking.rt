@@ -1,5 +1,6 @@
 // Checks a draft: methods, nodes, methods lacking an entry, edges, rows, in this order.
-ghost use Rattle.std.specs.Prelude.{◌≡◌, ℕ, suc, ◌+◌, ◌*◌, ◌<◌, ◌≤◌, true, ◌++◌, is_ok, Decides, MatchResult};
+// Each stage goes over the numbers of its records: what is read by number and refused by number has no iterator that is plainer.
+ghost use Rattle.std.specs.Prelude.{◌≡◌, ℕ, suc, ◌+◌, ◌*◌, ◌<◌, ◌≤◌, true, ◌++◌, is_ok, IfOk, Decides, MatchResult};
 ghost use Rattle.std.specs.Result.{result_err};
 ghost use Rattle.recipe.specs.Bytes.{count_in, program_of};
 ghost use Rattle.recipe.specs.declared.grounds.Refusal.TheVariants.{BadMethod, BadNode, BadEdge, BadRow};
@@ -8,10 +9,9 @@ ghost use Rattle.model.specs.Program.{node_at, is_edge, rises_after};
 ghost use Rattle.recipe.specs.Bytes.{node_in};
 ghost use Rattle.recipe.specs.Offence.{any_below, kind_fits, record_fits};
 ghost use Rattle.recipe.specs.Format.{Legal};
-ghost use Rattle.recipe.specs.Spans.{Summed, SpanOf};
 
-use crate::spans::Span;
-use crate::{Draft, Layout, Recipe, Refusal, take};
+use crate::spans::Divided;
+use crate::{Draft, Layout, Recipe, Refusal};
 use model::{Edge, Kind};
 
 // Whether a node of this kind may stand in a recipe of so many methods, in a method with these rights.
@@ -36,13 +36,14 @@ pub(crate) fn rises_after(last: Option<Edge>, e: Edge) -> bool
     last < Some(e)
 }
 
-impl Layout<'_> {
+impl<'a> Layout<'a> {
     // Each method has nodes, and their counts sum up to the node count.
-    fn check_methods(&self) -> Result<(), Refusal>
-        ensures { result_err result ≡ first_offence (each (count_in self.now.file.now 0) (method_test self.now.file.now) BadMethod) }
+    fn check_methods<'l>(&'l self) -> Result<Divided<'l, 'a>, Refusal>
+        ensures answer { result_err result ≡ first_offence (each (count_in self.now.file.now 0) (method_test self.now.file.now) BadMethod) }
+        ensures of { IfOk result (λ d. d.layout.now ≡ self.now) }
     {
-        let methods = self.contents.methods.count as usize;
-        let nodes = self.contents.nodes.count as usize;
+        let methods = usize::from(self.contents.methods.count);
+        let nodes = usize::from(self.contents.nodes.count);
         let mut sum = 0;
         for k in 0..methods {
             let own = self.method(k).nodes as usize;
@@ -51,7 +52,7 @@ impl Layout<'_> {
                 return Err(Refusal::BadMethod { method: k as u32 });
             }
         }
-        Ok(())
+        Ok(Divided { layout: self })
     }
 
     // Whether the record of node n is right in a method with these rights.
@@ -59,27 +60,9 @@ impl Layout<'_> {
         requires { n < self.now.contents.nodes.count }
         ensures { result ≡ record_fits (count_in self.now.file.now 0) rights (node_in self.now.file.now n) }
     {
-        match self.node(n) {
-            Some(node) => kind_fits(node.kind, self.contents.methods.count as u32, rights),
-            None => false,
-        }
-    }
-
-    // Each node record is right.
-    fn check_nodes(&self) -> Result<(), Refusal>
-        requires { Summed self.now.file.now }
-        ensures { result_err result ≡ first_offence (each (count_in self.now.file.now 1) (node_test self.now.file.now) BadNode) }
-    {
-        let nodes = self.contents.nodes.count as usize;
-        let mut span = self.first_span();
-        for n in 0..nodes {
-            span = self.seek(span, n);
-            let rights = self.method(span.method).rights;
-            if !self.node_fits(n, rights) {
-                return Err(Refusal::BadNode { node: n as u32 });
-            }
-        }
-        Ok(())
+        let methods = u32::from(self.contents.methods.count);
+        self.node(n)
+            .is_some_and(|node| kind_fits(node.kind, methods, rights))
     }
 
     // Whether one of so many nodes from a first one on is an entry.
@@ -87,65 +70,7 @@ impl Layout<'_> {
         requires { first + many ≤ self.now.contents.nodes.count }
         ensures { result ≡ any_below many (λ j. (node_at (program_of self.now.file.now) (first + j)).entry) }
     {
-        for j in 0..many {
-            if self.node_at(first + j).entry {
-                return true;
-            }
-        }
-        false
-    }
-
-    // Each method has an entry.
-    fn check_entries(&self) -> Result<(), Refusal>
-        requires { Summed self.now.file.now }
-        ensures { result_err result ≡ first_offence (each (count_in self.now.file.now 0) (entry_test self.now.file.now) BadMethod) }
-    {
-        let methods = self.contents.methods.count as usize;
-        let mut first = 0;
-        for k in 0..methods {
-            let own = self.method(k).nodes as usize;
-            if !self.has_entry(first, own) {
-                return Err(Refusal::BadMethod { method: k as u32 });
-            }
-            first += own;
-        }
-        Ok(())
-    }
-
-    // Whether e is an edge by the rules; the span is that of the node it leaves.
-    pub(crate) fn edge_fits(&self, span: Span, e: Edge) -> bool
-        requires sums { Summed self.now.file.now }
-        requires spans { SpanOf self.now.file.now span }
-        requires low { span.start ≤ e.from }
-        requires high { e.from < span.end }
-        ensures { result ≡ is_edge (program_of self.now.file.now) e }
-    {
-        let to = e.to as usize;
-        let goes_on = !self.node_at(e.from as usize).kind.is_return();
-        goes_on && span.start <= to && to < span.end
-    }
-
-    // Each edge is one by the rules, and rises above the one before it.
-    fn check_edges(&self) -> Result<(), Refusal>
-        requires { Summed self.now.file.now }
-        ensures { result_err result ≡ first_offence (each (count_in self.now.file.now 2) (edge_test self.now.file.now) BadEdge) }
-    {
-        let nodes = self.contents.nodes.count as u32;
-        let edges = self.contents.edges.count as usize;
-        let mut span = self.first_span();
-        let mut last = None;
-        for i in 0..edges {
-            let e = self.edge(i);
-            if e.from >= nodes || !rises_after(last, e) {
-                return Err(Refusal::BadEdge { edge: i as u32 });
-            }
-            span = self.seek(span, e.from as usize);
-            if !self.edge_fits(span, e) {
-                return Err(Refusal::BadEdge { edge: i as u32 });
-            }
-            last = Some(e);
-        }
-        Ok(())
+        (first..first + many).any(|n| self.node_at(n).entry)
     }
 
     // Whether each cell of a row leads to a row or is undefined.
@@ -153,21 +78,18 @@ impl Layout<'_> {
         requires { row < self.now.contents.rows.count }
         ensures { result ≡ row_test self.now.file.now row }
     {
-        let rows = self.contents.rows.count as u32;
-        for mark in 0..32 {
+        let rows = u32::from(self.contents.rows.count);
+        (0..32).all(|mark| {
             let cell = self.cell(row, mark);
-            if cell >= rows && cell != 255 {
-                return false;
-            }
-        }
-        true
+            cell < rows || cell == 255
+        })
     }
 
     // Each row is right.
     fn check_rows(&self) -> Result<(), Refusal>
         ensures { result_err result ≡ first_offence (each (count_in self.now.file.now 3) (row_test self.now.file.now) BadRow) }
     {
-        let rows = self.contents.rows.count as usize;
+        let rows = usize::from(self.contents.rows.count);
         for row in 0..rows {
             if !self.row_fits(row) {
                 return Err(Refusal::BadRow { row: row as u32 });
@@ -180,11 +102,66 @@ impl Layout<'_> {
     fn check_all(&self) -> Result<(), Refusal>
         ensures { result_err result ≡ first_offence (check_tests self.now.file.now) }
     {
-        self.check_methods()?;
-        self.check_nodes()?;
-        self.check_entries()?;
-        self.check_edges()?;
+        let divided = self.check_methods()?;
+        divided.check_nodes()?;
+        divided.check_entries()?;
+        divided.check_edges()?;
         self.check_rows()
+    }
+}
+
+impl Divided<'_, '_> {
+    // Each node record is right.
+    fn check_nodes(self) -> Result<(), Refusal>
+        ensures { result_err result ≡ first_offence (each (count_in self.entry.layout.now.file.now 1) (node_test self.entry.layout.now.file.now) BadNode) }
+    {
+        let nodes = usize::from(self.layout.contents.nodes.count);
+        let mut span = self.first_span();
+        for n in 0..nodes {
+            span = span.seek(n);
+            if !self.layout.node_fits(n, span.rights()) {
+                return Err(Refusal::BadNode { node: n as u32 });
+            }
+        }
+        Ok(())
+    }
+
+    // Each method has an entry.
+    fn check_entries(self) -> Result<(), Refusal>
+        ensures { result_err result ≡ first_offence (each (count_in self.entry.layout.now.file.now 0) (entry_test self.entry.layout.now.file.now) BadMethod) }
+    {
+        let methods = usize::from(self.layout.contents.methods.count);
+        let mut first = 0;
+        for k in 0..methods {
+            let own = self.layout.method(k).nodes as usize;
+            if !self.layout.has_entry(first, own) {
+                return Err(Refusal::BadMethod { method: k as u32 });
+            }
+            first += own;
+        }
+        Ok(())
+    }
+
+    // Each edge is one by the rules, and rises above the one before it.
+    fn check_edges(self) -> Result<(), Refusal>
+        ensures { result_err result ≡ first_offence (each (count_in self.entry.layout.now.file.now 2) (edge_test self.entry.layout.now.file.now) BadEdge) }
+    {
+        let nodes = u32::from(self.layout.contents.nodes.count);
+        let edges = usize::from(self.layout.contents.edges.count);
+        let mut span = self.first_span();
+        let mut last = None;
+        for i in 0..edges {
+            let e = self.layout.edge(i);
+            if e.from >= nodes || !rises_after(last, e) {
+                return Err(Refusal::BadEdge { edge: i as u32 });
+            }
+            span = span.seek(e.from as usize);
+            if !span.edge_fits(e) {
+                return Err(Refusal::BadEdge { edge: i as u32 });
+            }
+            last = Some(e);
+        }
+        Ok(())
     }
 }
 
@@ -206,7 +183,6 @@ pub fn read<'a>(file: &'a [u8], recipe: &mut Recipe<'a>) -> Result<(), Refusal>
     ensures filled { MatchResult result (λ _. recipe.new.layout.file.now ≡ file.now) (λ _. recipe.new ≡ recipe.old) }
     ensures legal { Decides (is_ok result) (Legal file.now) }
 {
-    let mut draft = Draft::built_in();
-    take(file, &mut draft)?;
-    check(draft, recipe)
+    let layout = Layout::read(file)?;
+    check(Draft { layout }, recipe)
 }

@@ -1,9 +1,9 @@
 // Recipe files: drafts and recipes over lent bytes, how they are taken, checked, read and written.
 #![tactic(auto)]
 
-ghost use Rattle.std.specs.Prelude.{◌≡◌, ℕ, ◌+◌, ◌*◌, ◌<◌, ◌≤◌, true, length, slice_index};
+ghost use Rattle.std.specs.Prelude.{◌≡◌, ℕ, ◌+◌, ◌*◌, ◌<◌, ◌≤◌, None, length, slice_index};
 ghost use Rattle.recipe.specs.Bytes.{place_in, count_in};
-ghost use Rattle.recipe.specs.Offence.{method_test, node_test, entry_test, edge_test, row_test};
+ghost use Rattle.recipe.specs.Offence.{first_offence, check_tests};
 
 mod built_in;
 mod checking;
@@ -13,7 +13,6 @@ mod grounds;
 mod numbers;
 mod reading;
 mod records;
-mod seeking;
 mod spans;
 mod taking;
 mod words;
@@ -26,7 +25,7 @@ pub use model::{Edge, Kind, Method, Node};
 pub use taking::take;
 pub use writing::{first_places, write};
 
-// A lent file whose table of contents and length are right: four bodies without gaps.
+// A lent file whose table of contents and length are right: four bodies without gaps. Its facts are of single numbers, which arithmetic finds by itself.
 #[derive(Drop)]
 pub(crate) struct Layout<'a> {
     file: &'a [u8],
@@ -53,13 +52,9 @@ pub struct Draft<'a> {
     layout: Layout<'a>,
 }
 
-// A file that was checked: each of its records is right too.
+// A file that was checked: check's tests refuse none of its records either.
 #[derive(Drop)]
 pub struct Recipe<'a> {
     layout: Layout<'a>,
-    ghost methods_pass: { (k : ℕ) → k < layout.contents.methods.count → method_test layout.file.now k ≡ true },
-    ghost nodes_pass: { (n : ℕ) → n < layout.contents.nodes.count → node_test layout.file.now n ≡ true },
-    ghost entries_pass: { (k : ℕ) → k < layout.contents.methods.count → entry_test layout.file.now k ≡ true },
-    ghost edges_pass: { (i : ℕ) → i < layout.contents.edges.count → edge_test layout.file.now i ≡ true },
-    ghost rows_pass: { (r : ℕ) → r < layout.contents.rows.count → row_test layout.file.now r ≡ true },
+    ghost passes: { first_offence (check_tests layout.file.now) ≡ None },
 }

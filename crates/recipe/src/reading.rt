@@ -1,13 +1,15 @@
 // Answers from a recipe's program, by number. A number past the end gets None, or no.
-ghost use Rattle.std.specs.Prelude.{◌≡◌, length};
+ghost use Rattle.std.specs.Prelude.{◌≡◌, ◌<◌, ◌≤◌, length};
 ghost use Rattle.std.specs.List.{slice_get};
 ghost use Rattle.model.specs.Access.{is_entry_of};
-ghost use Rattle.model.specs.Program.{node_at, is_edge, counts};
+ghost use Rattle.model.specs.Program.{node_at, home, is_edge, counts};
 ghost use Rattle.recipe.specs.Recipes.{program, own_edges, method_of, cell_of};
 
 use crate::Recipe;
 use crate::checking::rises_after;
-use model::{Edge, Kind, Method, Node};
+use crate::records::NO_NODE;
+use crate::spans::{Divided, Span};
+use model::{Edge, Method, Node};
 
 impl Recipe<'_> {
     // How many methods there are.
@@ -62,14 +64,7 @@ impl Recipe<'_> {
     pub fn node_at(&self, n: u32) -> Node
         ensures { result ≡ node_at (program self.now) n }
     {
-        match self.node(n) {
-            Some(node) => node,
-            None => Node {
-                kind: Kind::Return,
-                mark: 0,
-                entry: false,
-            },
-        }
+        self.node(n).unwrap_or(NO_NODE)
     }
 
     // An edge of the file.
@@ -94,13 +89,27 @@ impl Recipe<'_> {
         }
     }
 
+    // The nodes of the method of node n.
+    fn span_of(&self, n: u32) -> Span<'_, '_>
+        requires { n < length (program self.now).nodes }
+        ensures of { result.of.layout.now ≡ self.now.layout }
+        ensures home { result.method ≡ home (program self.now).methods n }
+        ensures low { result.start ≤ n }
+        ensures high { n < result.end }
+    {
+        let divided = Divided {
+            layout: &self.layout,
+        };
+        divided.first_span().seek(n as usize)
+    }
+
     // The method of a node.
     pub fn method_of(&self, n: u32) -> Option<u32>
         ensures { result ≡ method_of (program self.now) n }
     {
+        // An if and no `then`, of whose closure the proof learns nothing that a method told it.
         if n < self.nodes() {
-            let span = self.layout.seek(self.layout.first_span(), n as usize);
-            Some(span.method as u32)
+            Some(self.span_of(n).method as u32)
         } else {
             None
         }
@@ -117,11 +126,7 @@ impl Recipe<'_> {
     pub fn is_edge(&self, e: Edge) -> bool
         ensures { result ≡ is_edge (program self.now) e }
     {
-        if e.from >= self.nodes() {
-            return false;
-        }
-        let span = self.layout.seek(self.layout.first_span(), e.from as usize);
-        self.layout.edge_fits(span, e)
+        e.from < self.nodes() && self.span_of(e.from).edge_fits(e)
     }
 
     // Whether e counts after the last edge that did: an edge by the rules that rises above it.

@@ -6,12 +6,19 @@ ghost use Rattle.model.specs.Program.{node_at};
 use crate::Layout;
 use model::{Edge, Kind, Method, Node};
 
+// What stands for a node where there is none: a return with mark 0 that is no entry.
+pub(crate) const NO_NODE: Node = Node {
+    kind: Kind::Return,
+    mark: 0,
+    entry: false,
+};
+
 // Two bytes as a number, the greater one first.
 pub(crate) fn word(bytes: &[u8], at: usize) -> u16
     requires { at + 1 < length bytes.now }
     ensures { result ≡ word_at bytes.now at }
 {
-    bytes[at] as u16 * 256 + bytes[at + 1] as u16
+    u16::from_be_bytes([bytes[at], bytes[at + 1]])
 }
 
 // What the fields of a node record that depend on its kind say, if those that its kind does not use are 0.
@@ -38,21 +45,18 @@ fn node_of(bytes: &[u8]) -> Option<Node>
     requires { length bytes.now ≡ 8 }
     ensures { result ≡ record_at bytes.now 0 }
 {
+    // A part of a file is a slice, though of a length that is known.
     let [kind, mark, flags, callee, g1, g0, a1, a0] = *bytes else {
         return None;
     };
-    let grant = g1 as u32 * 256 + g0 as u32;
-    let accept = a1 as u32 * 256 + a0 as u32;
-    let kind = kind_of(kind, flags, callee as u32, grant, accept)?;
-    if mark < 32 {
-        Some(Node {
-            kind,
-            mark: mark as u32,
-            entry: flags % 2 == 1,
-        })
-    } else {
-        None
-    }
+    let grant = u16::from_be_bytes([g1, g0]);
+    let accept = u16::from_be_bytes([a1, a0]);
+    let kind = kind_of(kind, flags, callee.into(), grant.into(), accept.into())?;
+    (mark < 32).then_some(Node {
+        kind,
+        mark: mark.into(),
+        entry: flags % 2 == 1,
+    })
 }
 
 impl Layout<'_> {
@@ -60,10 +64,10 @@ impl Layout<'_> {
         requires { k < self.now.contents.methods.count }
         ensures { result ≡ method_in self.now.file.now k }
     {
-        let at = self.contents.methods.place as usize + 4 * k;
+        let at = usize::from(self.contents.methods.place) + 4 * k;
         Method {
-            rights: word(self.file, at) as u32,
-            nodes: word(self.file, at + 2) as u32,
+            rights: word(self.file, at).into(),
+            nodes: word(self.file, at + 2).into(),
         }
     }
 
@@ -71,7 +75,7 @@ impl Layout<'_> {
         requires { n < self.now.contents.nodes.count }
         ensures { result ≡ node_in self.now.file.now n }
     {
-        let at = self.contents.nodes.place as usize + 8 * n;
+        let at = usize::from(self.contents.nodes.place) + 8 * n;
         node_of(&self.file[at..at + 8])
     }
 
@@ -80,24 +84,17 @@ impl Layout<'_> {
         requires { n < self.now.contents.nodes.count }
         ensures { result ≡ node_at (program_of self.now.file.now) n }
     {
-        match self.node(n) {
-            Some(node) => node,
-            None => Node {
-                kind: Kind::Return,
-                mark: 0,
-                entry: false,
-            },
-        }
+        self.node(n).unwrap_or(NO_NODE)
     }
 
     pub(crate) fn edge(&self, i: usize) -> Edge
         requires { i < self.now.contents.edges.count }
         ensures { result ≡ edge_in self.now.file.now i }
     {
-        let at = self.contents.edges.place as usize + 4 * i;
+        let at = usize::from(self.contents.edges.place) + 4 * i;
         Edge {
-            from: word(self.file, at) as u32,
-            to: word(self.file, at + 2) as u32,
+            from: word(self.file, at).into(),
+            to: word(self.file, at + 2).into(),
         }
     }
 
@@ -105,7 +102,7 @@ impl Layout<'_> {
         requires { (row < self.now.contents.rows.count) × (mark < 32) }
         ensures { result ≡ cell_in self.now.file.now row mark }
     {
-        let at = self.contents.rows.place as usize + 32 * row + mark;
-        self.file[at] as u32
+        let at = usize::from(self.contents.rows.place) + 32 * row + mark;
+        self.file[at].into()
     }
 }

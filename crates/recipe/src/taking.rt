@@ -1,5 +1,5 @@
 // Takes a file: its table of contents and its length, before anything is read of its records.
-ghost use Rattle.std.specs.Prelude.{◌≡◌, ℕ, ◌+◌, ◌*◌, ◌<◌, ◌≤◌, true, length, is_ok, MatchResult};
+ghost use Rattle.std.specs.Prelude.{◌≡◌, ℕ, ◌+◌, ◌*◌, ◌<◌, ◌≤◌, true, length, is_ok, IfOk, MatchResult};
 ghost use Rattle.std.specs.Result.{result_err};
 ghost use Rattle.recipe.specs.Bytes.{body_in, contents_in};
 ghost use Rattle.recipe.specs.Format.{Legal};
@@ -27,7 +27,7 @@ impl Body {
         requires { wide ≤ 32 }
         ensures { result ≡ ends wide self.now }
     {
-        self.place as usize + wide * self.count as usize
+        usize::from(self.place) + wide * usize::from(self.count)
     }
 }
 
@@ -45,13 +45,14 @@ impl Contents {
     }
 
     // Whether each count lies within its limits.
+    #[tactic(auto, using(std::proofs::lemmas::Bool::Decides::nat_tests), unfolding(crate::specs::Offence::first_offence))]
     fn check_counts(&self) -> Result<(), Refusal>
         ensures { result_err result ≡ first_offence (count_tests self.now) }
     {
-        if self.methods.count < 1 || self.methods.count > 256 {
+        if !(1..=256).contains(&self.methods.count) {
             return Err(Refusal::Miscounted { entry: 0 });
         }
-        if self.nodes.count < 1 || self.nodes.count > 1024 {
+        if !(1..=1024).contains(&self.nodes.count) {
             return Err(Refusal::Miscounted { entry: 1 });
         }
         if self.edges.count > 4096 {
@@ -64,19 +65,20 @@ impl Contents {
     }
 
     // Whether the bodies follow each other without gaps to the end of the file.
+    #[tactic(auto, using(std::proofs::lemmas::Bool::Decides::nat_tests), unfolding(crate::specs::Offence::first_offence))]
     fn check_places(&self, len: usize) -> Result<(), Refusal>
         ensures { result_err result ≡ first_offence (place_tests self.now len) }
     {
         if self.methods.place != 16 {
             return Err(Refusal::Misplaced { entry: 0 });
         }
-        if self.nodes.place as usize != self.methods.end(4) {
+        if usize::from(self.nodes.place) != self.methods.end(4) {
             return Err(Refusal::Misplaced { entry: 1 });
         }
-        if self.edges.place as usize != self.nodes.end(8) {
+        if usize::from(self.edges.place) != self.nodes.end(8) {
             return Err(Refusal::Misplaced { entry: 2 });
         }
-        if self.rows.place as usize != self.edges.end(4) {
+        if usize::from(self.rows.place) != self.edges.end(4) {
             return Err(Refusal::Misplaced { entry: 3 });
         }
         if len != self.rows.end(32) {
@@ -86,20 +88,30 @@ impl Contents {
     }
 }
 
+impl<'a> Layout<'a> {
+    // The layout of a file, if its table of contents and its length are right.
+    pub(crate) fn read(file: &'a [u8]) -> Result<Layout<'a>, Refusal>
+        ensures answer { result_err result ≡ first_offence (take_tests file.now) }
+        ensures held { IfOk result (λ l. l.file.now ≡ file.now) }
+    {
+        if file.len() < 16 {
+            return Err(Refusal::Misplaced { entry: 4 });
+        }
+        let contents = Contents::read(file);
+        contents.check_counts()?;
+        contents.check_places(file.len())?;
+        Ok(Layout { file, contents })
+    }
+}
+
 // Fills the draft with the file, if its table of contents and its length are right; else leaves it.
 pub fn take<'a>(file: &'a [u8], draft: &mut Draft<'a>) -> Result<(), Refusal>
     ensures answer { result_err result ≡ first_offence (take_tests file.now) }
     ensures filled { MatchResult result (λ _. draft.new.layout.file.now ≡ file.now) (λ _. draft.new ≡ draft.old) }
     ensures legal { Legal file.now → is_ok result ≡ true }
 {
-    if file.len() < 16 {
-        return Err(Refusal::Misplaced { entry: 4 });
-    }
-    let contents = Contents::read(file);
-    contents.check_counts()?;
-    contents.check_places(file.len())?;
     *draft = Draft {
-        layout: Layout { file, contents },
+        layout: Layout::read(file)?,
     };
     Ok(())
 }

@@ -7,5 +7,5 @@ use Rattle.recipe.proofs.Layout.node.Goals as goal
 pub returns : goal.returns
 returns c =
     let l = c.args.self.now in
-    c.node_of.ensures ∙ record_part l.file.now (l.contents.nodes.place + 8 * c.args.n)
-    ∙ ap (λ at. record_at l.file.now (at + 8 * c.args.n)) (nodes_place l)
+    c.node_of.ensures ∙ record_part l.file.now (c.from.result + 8 * c.args.n)
+    ∙ ap (λ at. record_at l.file.now (at + 8 * c.args.n)) (c.from.ensures ∙ nodes_place l)

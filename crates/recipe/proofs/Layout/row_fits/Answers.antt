@@ -1,15 +1,12 @@
-use Rattle.std.proofs.Common.{sym, arith}
-use Rattle.std.proofs.lemmas.Bool.Decides.{nat_tests}
+use Rattle.std.proofs.Common.{◌≡◌, true, false, refl, rules}
+use Rattle.std.proofs.lemmas.Iterator.{YieldsList-from_range, cases_from_all}
+use borrow.Author.Tests.{tests}
 use Rattle.recipe.specs.Offence.{row_test, cell_test}
-use Rattle.recipe.proofs.Layers.{all_below_from, all_below_fails}
+use Rattle.recipe.proofs.Layers.{all_over}
 use Rattle.recipe.proofs.Layout.row_fits.Goals as goal
-
-pub returns-then-cell-ne255 : goal.returns-then-cell-ne255
-unfolding row_test
-returns-then-cell-ne255 c =
-    let bs = c.args.self.now.file.now in
-    sym (all_below_fails 32 (cell_test bs c.args.row) c.loop-mark.mark (omega arith) (grind (arith, nat_tests)))
 
 pub returns : goal.returns
 unfolding row_test
-returns c = sym (all_below_from 32 (cell_test c.args.self.now.file.now c.args.row) (λ k h. c.loop-mark.invariant k (omega arith)))
+returns c =
+    let f = cell_test c.args.self.now.file.now c.args.row in
+    all_over 32 f c.all.result (cases_from_all _ _ _ (λ n. f n ≡ true) (λ n. f n ≡ false) c.all.ensures.ran (YieldsList-from_range 0 32 32 refl refl) (λ x q k. search (rules, tests)) (λ x q k. search (rules, tests)))

@@ -1,16 +1,9 @@
-use Rattle.std.proofs.Common.{refl, arith}
-use Rattle.recipe.specs.Format.{bytes_of}
-use Rattle.recipe.proofs.Smallest.{smallest_small, smallest_checked}
+use Rattle.std.proofs.Common.{[], ap, ◌∙◌}
+use Rattle.recipe.specs.Offence.{first_offence, check_tests}
+use Rattle.recipe.specs.Recipes.{smallest}
+use Rattle.recipe.proofs.ReadBack.{check_passes}
+use Rattle.recipe.proofs.Smallest.{smallest_lawful}
 use Rattle.recipe.proofs.Recipe.built_in.Goals as goal
 
 pub invariant_of-result : goal.invariant_of-result
-unfolding bytes_of
-invariant_of-result c = record { bytes = smallest_small; methods_told = (refl, refl); nodes_told = (refl, refl); edges_told = (refl, refl); rows_told = (refl, refl); methods_few = (omega arith, omega arith); nodes_few = (omega arith, omega arith); edges_few = omega arith; rows_few = omega arith; methods_laid = refl; nodes_laid = refl; edges_laid = refl; rows_laid = refl; whole = refl }
-
-pub invariant_of-result-2 : goal.invariant_of-result-2
-unfolding bytes_of
-invariant_of-result-2 c = let k = smallest_checked in record { methods_pass = k.methods; nodes_pass = k.nodes; entries_pass = k.entries; edges_pass = k.edges; rows_pass = k.rows }
-
-pub returns : goal.returns
-unfolding bytes_of
-returns c = refl
+invariant_of-result c = record { passes = ap (λ bs. first_offence (check_tests bs)) c.built_in.ensures ∙ check_passes smallest [] smallest_lawful }

@@ -1,33 +1,15 @@
-use Rattle.std.proofs.Common.{Ok, sym, refl, ◌∙◌, arith, rules}
-use Rattle.std.proofs.lemmas.Result.{MatchResult-from_err}
+use Rattle.std.proofs.Common.{Ok, ◌∙◌}
 use Rattle.recipe.proofs.Places.{laid}
 use Rattle.recipe.proofs.Stages.{exit}
 use Rattle.recipe.proofs.Verdicts.{legal_checked}
-use Rattle.recipe.proofs.WriteBack.{checked}
 use Rattle.recipe.proofs.checking.check.Goals as goal
 
-pub returns-in_err-check_all : goal.returns-in_err-check_all
-returns-in_err-check_all c =
+pub returns-in_err-check_all-clause-legal : goal.returns-in_err-check_all-clause-legal
+returns-in_err-check_all-clause-legal c =
     let l = c.args.draft.layout in
-    let bs = l.file.now in
-    let e = exit _ _ c.from_residual.ensures.1 ∙ c.in_err-check_all.ensures in
-    record { answer = e; filled = MatchResult-from_err _ _ _ c.from_residual.ensures.0 (λ y. refl); legal = legal_checked bs _ l.bytes (laid l) e }
+    legal_checked l.file.now _ l.bytes (laid l) (exit _ _ c.from_residual.ensures.1 ∙ c.in_err-check_all.ensures)
 
-pub invariant_of-recipe : goal.invariant_of-recipe
-invariant_of-recipe c =
+pub returns-clause-legal : goal.returns-clause-legal
+returns-clause-legal c =
     let l = c.args.draft.layout in
-    let k = checked c.args.draft.layout.file.now (sym c.in_ok-check_all.ensures) in
-    record {
-      methods_pass = λ i h. k.methods i (omega arith);
-      nodes_pass = λ i h. k.nodes i (omega arith);
-      entries_pass = λ i h. k.entries i (omega arith);
-      edges_pass = λ i h. k.edges i (omega arith);
-      rows_pass = λ i h. k.rows i (omega arith);
-    }
-
-pub returns : goal.returns
-returns c =
-    let l = c.args.draft.layout in
-    let bs = l.file.now in
-    let e = c.in_ok-check_all.ensures in
-    record { answer = e; filled = search rules; legal = legal_checked {T = Unit {0}} bs (Ok tt) l.bytes (laid l) e }
+    legal_checked {T = Unit {0}} l.file.now (Ok tt) l.bytes (laid l) c.in_ok-check_all.ensures
