@@ -76,10 +76,16 @@ static EDGES: [Edge; 4] = [
 ];
 
 // Row 0 goes on to row 1 at mark 1, and row 1 leads nowhere at mark 2; else both stay.
-static ROWS: &[u8; 64] = b"\x00\x01\x00\x00\x00\x00\x00\x00\x00\x00\x00\x00\x00\x00\x00\x00\
-    \x00\x00\x00\x00\x00\x00\x00\x00\x00\x00\x00\x00\x00\x00\x00\x00\
-    \x01\x01\xff\x01\x01\x01\x01\x01\x01\x01\x01\x01\x01\x01\x01\x01\
-    \x01\x01\x01\x01\x01\x01\x01\x01\x01\x01\x01\x01\x01\x01\x01\x01";
+static ROWS: [[u8; 32]; 2] = [
+    [
+        0, 1, 0, 0, 0, 0, 0, 0, 0, 0, 0, 0, 0, 0, 0, 0, 0, 0, 0, 0, 0, 0, 0, 0, 0, 0, 0, 0, 0, 0,
+        0, 0,
+    ],
+    [
+        1, 1, 255, 1, 1, 1, 1, 1, 1, 1, 1, 1, 1, 1, 1, 1, 1, 1, 1, 1, 1, 1, 1, 1, 1, 1, 1, 1, 1, 1,
+        1, 1,
+    ],
+];
 
 // What the file is made of.
 pub fn parts() -> Parts<'static> {
@@ -87,7 +93,7 @@ pub fn parts() -> Parts<'static> {
         methods: &METHODS,
         nodes: &NODES,
         edges: &EDGES,
-        rows: ROWS,
+        rows: &ROWS,
     }
 }
 
@@ -112,6 +118,7 @@ static FILE: &[u8; 164] = b"\x00\x10\x00\x03\x00\x1c\x00\x07\x00\x54\x00\x04\x00
     \x01\x01\xff\x01\x01\x01\x01\x01\x01\x01\x01\x01\x01\x01\x01\x01\
     \x01\x01\x01\x01\x01\x01\x01\x01\x01\x01\x01\x01\x01\x01\x01\x01";
 
+// The bytes of the file.
 pub fn file() -> &'static [u8]
     ensures { length result.now ≡ 164 }
 {
