@@ -1,6 +1,6 @@
 // A node of a method, as one line.
-use crate::phrases::Rights;
 use recipe::{Edge, Kind, Node};
+use showing::Rights;
 use std::fmt;
 
 // What a node does.
@@ -25,10 +25,7 @@ impl fmt::Display for Action {
                     "call method {callee}{privileged}, grant {grant}, accept {accept}"
                 )
             }
-            Kind::Check { required } => {
-                let required = Rights(required);
-                write!(f, "check {required}")
-            }
+            Kind::Check { required } => write!(f, "check {}", Rights(required)),
             Kind::Return => f.write_str("return"),
         }
     }
@@ -42,8 +39,7 @@ impl fmt::Display for Targets<'_> {
     fn fmt<W: fmt::Write>(&self, f: &mut fmt::Formatter<W>) -> fmt::Result {
         let mut before = "; then ";
         for edge in self.0 {
-            let to = edge.to;
-            write!(f, "{before}{to}")?;
+            write!(f, "{before}{}", edge.to)?;
             before = ", ";
         }
         Ok(())

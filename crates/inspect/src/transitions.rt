@@ -52,6 +52,7 @@ fn list_row(rt: &impl Print, recipe: &Recipe, row: u32) -> io::Result<()> {
     println!(rt; "")
 }
 
+// Each row, as a line.
 pub(crate) fn list_rows(rt: &impl Print, recipe: &Recipe) -> io::Result<()> {
     for row in 0..recipe.rows() {
         list_row(rt, recipe, row)?;
