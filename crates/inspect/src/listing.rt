@@ -5,7 +5,7 @@ ghost use Rattle.model.specs.Program.{no_edge};
 use crate::phrases::Run;
 use crate::steps::Step;
 use recipe::{Edge, Method, Recipe};
-use showing::{Held, Rights};
+use showing::Held;
 use std::{fmt, io};
 
 // The line above a method's nodes.
@@ -24,7 +24,7 @@ impl fmt::Display for Heading {
             nodes,
         } = self;
         let main = if *number == 0 { " (main)" } else { "" };
-        let rights = Held(Rights(method.rights));
+        let rights = Held(method.rights);
         write!(f, "method {number}{main}: {rights}; {nodes}")
     }
 }
@@ -68,6 +68,7 @@ fn list_nodes<'a>(
 pub(crate) fn list_methods(rt: &impl Print, recipe: &Recipe, edges: &[Edge]) -> io::Result<()> {
     let mut first = 0u32;
     let mut rest = edges;
+    // A recipe answers by number: there is no slice of methods to go through.
     for number in 0..recipe.methods() {
         if let Some(method) = recipe.method(number) {
             // The nodes of all methods are few, so nothing is cut off here.

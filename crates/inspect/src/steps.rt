@@ -56,11 +56,14 @@ pub(crate) struct Step<'a> {
 
 impl fmt::Display for Step<'_> {
     fn fmt<W: fmt::Write>(&self, f: &mut fmt::Formatter<W>) -> fmt::Result {
-        let number = self.number;
-        let entry = if self.node.entry { ", entry" } else { "" };
-        let action = Action(self.node.kind);
-        let mark = self.node.mark;
-        let targets = Targets(self.edges);
+        let Step {
+            number,
+            node: Node { kind, mark, entry },
+            edges,
+        } = self;
+        let entry = if *entry { ", entry" } else { "" };
+        let action = Action(*kind);
+        let targets = Targets(edges);
         write!(f, "node {number}{entry}: {action}; mark {mark}{targets}")
     }
 }

@@ -27,11 +27,12 @@ static STACK: [Row; 7] = [
     [0, 3, 0, 2, 3, 2, 4, 3, 6, 7],
 ];
 
-// The tables are handed out by functions, so that a proof of a test does not have to carry each row.
+// The rows under history: handed out by a function, so that a proof of a test does not have to carry each of them.
 pub fn history_rows() -> &'static [Row] {
     &HISTORY
 }
 
+// The rows under stack inspection.
 pub fn stack_rows() -> &'static [Row] {
     &STACK
 }

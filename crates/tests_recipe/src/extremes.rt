@@ -1,5 +1,5 @@
 // The smallest and the largest file, and files with no edges or no rows: each is read, and written back byte for byte.
-use crate::whole::{LONGEST, written_back};
+use crate::whole::{LONGEST, check_written_back};
 use model::{Edge, Kind, Method, Node};
 use recipe::{Draft, Recipe};
 use samples::building::Parts;
@@ -68,9 +68,7 @@ fn largest(heap: Global) -> Result<Vec<u8>, Fail> {
 
 // A file is read, and written back as it was.
 fn check_back(rt: &(impl Abort + AllocGlobal), file: &[u8]) -> Result<(), Fail> {
-    let recipe = recipe_of(file)?;
-    assert_eq!(rt; written_back(rt.alloc(), &recipe)?.as_slice(), file);
-    Ok(())
+    check_written_back(rt, &recipe_of(file)?, file)
 }
 
 #[test]
@@ -113,17 +111,10 @@ fn the_largest_file_is_written_back(rt: HostRuntime) -> Result<(), Fail> {
 // The builder and the bytes of the samples say the same, and the first values are the smallest recipe.
 #[test]
 fn samples_and_first_values(rt: HostRuntime) -> Result<(), Fail> {
-    let heap = rt.alloc();
-    assert_eq!(rt; recipe_a::parts().file(heap)?.as_slice(), recipe_a::file());
+    let file = recipe_a::parts().file(rt.alloc())?;
+    assert_eq!(rt; file.as_slice(), recipe_a::file());
     let mut recipe = Recipe::built_in();
-    assert_eq!(rt;
-        written_back(heap, &recipe)?.as_slice(),
-        SMALLEST.as_slice()
-    );
+    check_written_back(&rt, &recipe, SMALLEST)?;
     recipe::check(Draft::built_in(), &mut recipe)?;
-    assert_eq!(rt;
-        written_back(heap, &recipe)?.as_slice(),
-        SMALLEST.as_slice()
-    );
-    Ok(())
+    check_written_back(&rt, &recipe, SMALLEST)
 }

@@ -1,5 +1,5 @@
 // A refusal leaves what the caller holds.
-use crate::whole::written_back;
+use crate::whole::check_written_back;
 use recipe::Refusal::{BadRow, Misplaced};
 use recipe::{Draft, Recipe, check, read, take};
 use samples::building::changed;
@@ -19,8 +19,7 @@ fn a_refused_take_leaves_the_draft(rt: HostRuntime) -> Result<(), Fail> {
     assert_eq!(rt; take(&file[0..15], &mut draft), Err(Misplaced { entry: 4 }));
     let mut a = Recipe::built_in();
     check(draft, &mut a)?;
-    assert_eq!(rt; written_back(rt.alloc(), &a)?.as_slice(), file);
-    Ok(())
+    check_written_back(&rt, &a, file)
 }
 
 // A recipe keeps a file while two others are refused, of which the bad one is taken and then fails.
@@ -37,8 +36,7 @@ fn check_kept<'a>(
     assert_eq!(rt; read(short, &mut a), Err(Misplaced { entry: 4 }));
     assert_eq!(rt; read(bad, &mut a), Err(BadRow { row: 1 }));
     assert_eq!(rt; check(draft, &mut a), Err(BadRow { row: 1 }));
-    assert_eq!(rt; written_back(rt.alloc(), &a)?.as_slice(), file);
-    Ok(())
+    check_written_back(rt, &a, file)
 }
 
 #[test]

@@ -3,6 +3,7 @@ use model::Edge;
 use recipe::Recipe;
 use showing::own_edges;
 use std::alloc::Global;
+use std::process::Abort;
 use std::test::Fail;
 
 // The length of the longest file.
@@ -16,8 +17,13 @@ pub fn written(heap: Global, recipe: &Recipe, edges: &[Edge]) -> Result<Vec<u8>,
     Ok(out)
 }
 
-// What a recipe writes with its own edges.
-pub fn written_back(heap: Global, recipe: &Recipe) -> Result<Vec<u8>, Fail> {
-    let edges = own_edges(heap, recipe)?;
-    written(heap, recipe, &edges)
+// A recipe writes this file with its own edges.
+pub fn check_written_back(
+    rt: &(impl Abort + AllocGlobal),
+    recipe: &Recipe,
+    file: &[u8],
+) -> Result<(), Fail> {
+    let edges = own_edges(rt.alloc(), recipe)?;
+    assert_eq!(rt; written(rt.alloc(), recipe, &edges)?.as_slice(), file);
+    Ok(())
 }

@@ -4,7 +4,7 @@
 use model::Frame;
 use recipe::{Recipe, Refusal};
 use rules::{AccessRule, History, StackInspection, TableWatch};
-use showing::{Held, Refused, Rights, own_edges, recipe_of};
+use showing::{Held, Refused, own_edges, recipe_of};
 use std::env;
 use std::io::Read;
 use walker::{Stand, go, start};
@@ -20,7 +20,7 @@ fn print_step(rt: &HostRuntime, recipe: &Recipe, at: Stand, node: u32) -> anyhow
         bad,
     } = at;
     let method = recipe.method_of(node).unwrap_or(0);
-    let rights = Held(Rights(value));
+    let rights = Held(value);
     let bad = if bad { ", bad" } else { "" };
     println!(rt;
         "depth {depth}, node {node} of method {method}: {rights}; watch in state {state}{bad}"
