@@ -1,6 +1,6 @@
 // Recipes with many facts: main is one ring of nodes, and each time round leads the watch on to its next row.
 use model::{Edge, Kind, Method, Node};
-use samples::building::Parts;
+use samples::building::{CALL, Parts};
 use std::alloc::{AllocError, Global};
 use std::fmt;
 
@@ -22,13 +22,6 @@ impl fmt::Display for Ring {
         )
     }
 }
-
-const CALL: Kind = Kind::Call {
-    callee: 1,
-    grant: 0,
-    accept: 0,
-    privileged: false,
-};
 
 // What a call of the ring goes into.
 const CALLEE: Node = Node {

@@ -12,6 +12,14 @@ pub struct Parts<'a> {
     pub rows: &'a [[u8; 32]],
 }
 
+// A call of method 1 that grants and accepts nothing.
+pub const CALL: Kind = Kind::Call {
+    callee: 1,
+    grant: 0,
+    accept: 0,
+    privileged: false,
+};
+
 // The two lesser bytes of a number, the greater one first.
 fn word(n: u32) -> [u8; 2] {
     let [_, _, high, low] = n.to_be_bytes();

@@ -2,7 +2,7 @@
 // Its bytes are handed out by functions, so that a proof of a test does not have to carry each of them.
 ghost use Rattle.std.specs.Prelude.{◌≡◌, length};
 
-use crate::building::Parts;
+use crate::building::{CALL, Parts};
 use model::{Edge, Kind, Method, Node};
 
 static METHODS: [Method; 3] = [
@@ -22,12 +22,7 @@ static METHODS: [Method; 3] = [
 
 static NODES: [Node; 7] = [
     Node {
-        kind: Kind::Call {
-            callee: 1,
-            grant: 0,
-            accept: 0,
-            privileged: false,
-        },
+        kind: CALL,
         mark: 0,
         entry: true,
     },

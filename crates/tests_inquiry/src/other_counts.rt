@@ -1,7 +1,7 @@
 // A dig whose counts are not those of the opening is refused, and changes nothing.
 use crate::facts_of_a::history_rows;
 use crate::idle::Idle;
-use crate::tables::{MARK, MARK_EDGE, all_worked, check_rows};
+use crate::tables::{MARK, MARK_EDGE, all_worked, check_facts};
 use inquiry::{Dug, Inquiry, Verdict};
 use model::Node;
 use recipe::Refusal::{self, OtherCounts, TooMany};
@@ -79,5 +79,5 @@ fn other_counts_are_refused(rt: HostRuntime) -> Result<(), Fail> {
     let report = inquiry.close(&watch);
     assert_eq!(rt; others, TOLD);
     assert_eq!(rt; report, Ok(all_worked(Verdict::Safe, 4)));
-    check_rows(&rt, &facts, history_rows())
+    check_facts(&rt, &facts, history_rows())
 }

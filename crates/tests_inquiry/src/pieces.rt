@@ -1,6 +1,6 @@
 // Digs in pieces come to what one dig comes to.
 use crate::facts_of_a::stack_rows;
-use crate::tables::{MARK, MARK_EDGE, check_rows, first_rows};
+use crate::tables::{MARK, MARK_EDGE, check_facts, first_rows};
 use inquiry::{Dug, Inquiry, Report, Verdict};
 use recipe::Recipe;
 use rules::{StackInspection, TableWatch};
@@ -61,7 +61,7 @@ fn check_pieces(
     assert_eq!(rt; dug, told, "{pieces:?}");
     assert_eq!(rt; verdict, Ok(expected.verdict), "{pieces:?}");
     assert_eq!(rt; report, Ok(expected), "{pieces:?}");
-    check_rows(rt, &facts, rows)
+    check_facts(rt, &facts, rows)
 }
 
 #[test]

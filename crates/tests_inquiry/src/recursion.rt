@@ -4,20 +4,13 @@ use inquiry::Verdict;
 use model::{Method, Node};
 use recipe::{Edge, Kind};
 use rules::{History, StackInspection, WallWatch};
-use samples::building::Parts;
+use samples::building::{CALL, Parts};
 use showing::recipe_of;
 use std::alloc::{AllocError, Global};
 use std::test::Fail;
 
 const CALL_MAIN: Kind = Kind::Call {
     callee: 0,
-    grant: 0,
-    accept: 0,
-    privileged: false,
-};
-
-const CALL: Kind = Kind::Call {
-    callee: 1,
     grant: 0,
     accept: 0,
     privileged: false,

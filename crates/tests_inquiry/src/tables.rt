@@ -63,7 +63,7 @@ fn check_places<T: Copy + PartialEq + Debug>(rt: &impl Abort, table: &[T], front
 }
 
 // The rows stand in the first places, and nothing was written past them.
-pub fn check_rows(
+pub fn check_facts(
     rt: &(impl Abort + AllocGlobal),
     facts: &[Fact],
     rows: &[Row],
@@ -155,7 +155,7 @@ impl<R: AccessRule, W: Watch> Scene<'_, '_, R, W> {
     ) -> Result<(), Fail> {
         let rows = first_rows(rows, expected.held)?;
         let tables = self.reported(rt, places, expected, case)?;
-        check_rows(rt, &tables.facts, rows)
+        check_facts(rt, &tables.facts, rows)
     }
 
     // The report alone, in enough places, where the rows were not worked out.

@@ -1,6 +1,6 @@
 // What does not fit is refused by fit, and by every call of the void inquiry, which writes nothing.
 use crate::idle::Idle;
-use crate::tables::{Scene, Tables, check_edges, check_rows};
+use crate::tables::{Scene, Tables, check_edges, check_facts};
 use inquiry::{Inquiry, fit};
 use recipe::Refusal::{self, TooMany, UnfitTable};
 use rules::{AccessRule, TableWatch, Watch};
@@ -74,7 +74,7 @@ fn check_fit<R: AccessRule, W: Watch>(
     let answer = scene.inquire(&mut tables, 9);
     assert_eq!(rt; answer.map(|_| ()), expected, "{case}");
     check_edges(rt, &tables.edges, &[]);
-    check_rows(rt, &tables.facts, &[])
+    check_facts(rt, &tables.facts, &[])
 }
 
 #[test]
