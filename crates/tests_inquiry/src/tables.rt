@@ -59,7 +59,8 @@ fn check_places<T: Copy + PartialEq + Debug>(rt: &impl Abort, table: &[T], front
     assert!(rt; front.len() <= table.len());
     let (written, rest) = table.split_at(front.len());
     assert_eq!(rt; written, front);
-    assert!(rt; rest.iter().all(|place| *place == mark), "{rest:?}");
+    // the first place past them that was written, if any
+    assert_eq!(rt; rest.iter().position(|place| *place != mark), None);
 }
 
 // The rows stand in the first places, and nothing was written past them.
