@@ -4,6 +4,7 @@ use showing::Refused;
 use std::fmt;
 
 // Shown as one line that begins with the refusal's number and detail, so that a script can read it.
+// A type of its own, since Refusal is of another crate and these words are this program's.
 #[derive(Clone, Copy)]
 pub(crate) struct Explained(pub Refusal);
 

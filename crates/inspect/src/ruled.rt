@@ -9,6 +9,7 @@ const EVERY_RIGHT: u32 = 65535;
 // The first entry of each method, in the order of the methods: nodes come in that order, and each method has an entry.
 pub(crate) fn first_entries(heap: Global, recipe: &Recipe) -> Result<Vec<u32>, AllocError> {
     let mut entries = Vec::new(heap);
+    // No chain: whether a node is taken hangs on how many were.
     for n in 0..recipe.nodes() {
         let home = recipe.method_of(n);
         if recipe.node_at(n).entry && home.is_some_and(|home| home as usize == entries.len()) {

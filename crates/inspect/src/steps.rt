@@ -3,7 +3,7 @@ use recipe::{Edge, Kind, Node};
 use showing::Rights;
 use std::fmt;
 
-// What a node does.
+// What a node does; a type of its own, since Kind is of another crate.
 #[derive(Drop)]
 struct Action(Kind);
 

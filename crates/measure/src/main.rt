@@ -24,6 +24,7 @@ const MOST_EDGES: usize = 4096;
 // What is timed: the nodes of a ring and its entries. Each entry gives 16 facts for each node.
 const TIMED: [(u32, u32); 6] = [(64, 1), (64, 4), (64, 16), (64, 64), (1023, 1), (1023, 4)];
 
+// What stands in the tables at first, since neither type has a Default.
 const NO_FACT: Fact = Fact {
     entry: 0,
     brought: 0,

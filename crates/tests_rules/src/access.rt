@@ -6,7 +6,7 @@ use showing::recipe_of;
 use std::process::Abort;
 use std::test::Fail;
 
-// What each question is asked, and what history and stack inspection answer.
+// What each question is asked, and what history and stack inspection answer: side by side, so that it is plain where they differ.
 const ENTERS: [(u32, u32, u32, u32, u32); 9] = [
     (1, 0, 4, 2, 0),
     (3, 0, 4, 2, 2),

@@ -7,7 +7,7 @@ use showing::recipe_of;
 use std::test::Fail;
 use walker::go;
 
-// The nodes and values of a stack of two frames, a depth, and a node that is no step from there.
+// The nodes and values of a stack of two frames, as pairs so that a case is one line, a depth, and a node that is no step from there.
 const FORGED: [([(u32, u32); 2], usize, u32); 8] = [
     ([(0, 3), (7, 3)], 2, 1),
     ([(7, 3), (3, 3)], 2, 1),

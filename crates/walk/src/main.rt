@@ -100,6 +100,7 @@ fn main(rt: HostRuntime) -> anyhow::Result<()> {
     let Some(rule) = words.next() else {
         return Ok(println!(rt; "{USAGE}")?);
     };
+    // A chain with try_collect would have to name the error of its closure.
     let mut nodes = Vec::new(rt.alloc());
     for word in words {
         nodes.push(word.as_str().parse::<u32>()?)?;
