@@ -1,16 +1,16 @@
 // A refusal in words.
 use recipe::Refusal;
+use showing::Refused;
 use std::fmt;
 
 // Shown as one line that begins with the refusal's number and detail, so that a script can read it.
+// A type of its own, since Refusal is of another crate and these words are this program's.
 #[derive(Clone, Copy)]
 pub(crate) struct Explained(pub Refusal);
 
 impl fmt::Display for Explained {
     fn fmt<W: fmt::Write>(&self, f: &mut fmt::Formatter<W>) -> fmt::Result {
-        let number = self.0.number();
-        let detail = self.0.detail();
-        write!(f, "refused {number} {detail}: ")?;
+        write!(f, "{}: ", Refused(self.0))?;
         match self.0 {
             Refusal::Misplaced { entry } => explain_place(f, entry),
             Refusal::Miscounted { entry } => explain_count(f, entry),
@@ -18,9 +18,9 @@ impl fmt::Display for Explained {
             Refusal::BadNode { node } => write!(f, "node {node}: {BAD_NODE}"),
             Refusal::BadEdge { edge } => write!(f, "edge {edge}: {BAD_EDGE}"),
             Refusal::BadRow { row } => write!(f, "row {row}: {BAD_ROW}"),
-            Refusal::TooMany => write!(f, "{TOO_MANY}"),
-            Refusal::OtherCounts => write!(f, "{OTHER_COUNTS}"),
-            Refusal::UnfitTable => write!(f, "{UNFIT_TABLE}"),
+            Refusal::TooMany => f.write_str(TOO_MANY),
+            Refusal::OtherCounts => f.write_str(OTHER_COUNTS),
+            Refusal::UnfitTable => f.write_str(UNFIT_TABLE),
             Refusal::NotAStep { place } => write!(
                 f,
                 "place {place}: this node is no step of the run"
@@ -82,6 +82,7 @@ fn explain_place<W: fmt::Write>(f: &mut fmt::Formatter<W>, entry: u32) -> fmt::R
     }
 }
 
+// The entry's count, and what it may be.
 fn explain_count<W: fmt::Write>(f: &mut fmt::Formatter<W>, entry: u32) -> fmt::Result {
     let body = body(entry);
     write!(

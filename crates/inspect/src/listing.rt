@@ -2,9 +2,10 @@
 ghost use Rattle.std.specs.Prelude.{◌≡◌, ℕ, ◌<◌, ◌≤◌, length, ◌≢◌, slice_index_or};
 ghost use Rattle.model.specs.Program.{no_edge};
 
-use crate::phrases::{Rights, Run};
+use crate::phrases::Run;
 use crate::steps::Step;
 use recipe::{Edge, Method, Recipe};
+use showing::Held;
 use std::{fmt, io};
 
 // The line above a method's nodes.
@@ -17,17 +18,14 @@ struct Heading {
 
 impl fmt::Display for Heading {
     fn fmt<W: fmt::Write>(&self, f: &mut fmt::Formatter<W>) -> fmt::Result {
-        let number = self.number;
-        let main = if number == 0 { " (main)" } else { "" };
-        write!(f, "method {number}{main}: ")?;
-        if self.method.rights == 0 {
-            f.write_str("no rights")?;
-        } else {
-            let rights = Rights(self.method.rights);
-            write!(f, "rights {rights}")?;
-        }
-        let nodes = self.nodes;
-        write!(f, "; {nodes}")
+        let Heading {
+            number,
+            method,
+            nodes,
+        } = self;
+        let main = if *number == 0 { " (main)" } else { "" };
+        let rights = Held(method.rights);
+        write!(f, "method {number}{main}: {rights}; {nodes}")
     }
 }
 
@@ -37,12 +35,10 @@ fn leaving(edges: &[Edge], n: u32) -> usize
     ensures front { (k : ℕ) → k < result → (slice_index_or edges.now k no_edge).from ≡ n }
     ensures stops { result < length edges.now → (slice_index_or edges.now result no_edge).from ≢ n }
 {
-    for (i, e) in edges.iter().enumerate() {
-        if e.from != n {
-            return i;
-        }
-    }
-    edges.len()
+    edges
+        .iter()
+        .position(|e| e.from != n)
+        .unwrap_or(edges.len())
 }
 
 // Prints the nodes from first to the one before end. The edges are those that leave them or later nodes, in
@@ -57,14 +53,12 @@ fn list_nodes<'a>(
     let mut rest = edges;
     for number in first..end {
         let (edges, others) = rest.split_at(leaving(rest, number));
-        if let Some(node) = recipe.node(number) {
-            let step = Step {
-                number,
-                node,
-                edges,
-            };
-            println!(rt; "  {step}")?;
-        }
+        let step = Step {
+            number,
+            node: recipe.node_at(number),
+            edges,
+        };
+        println!(rt; "  {step}")?;
         rest = others;
     }
     Ok(rest)
@@ -74,6 +68,7 @@ fn list_nodes<'a>(
 pub(crate) fn list_methods(rt: &impl Print, recipe: &Recipe, edges: &[Edge]) -> io::Result<()> {
     let mut first = 0u32;
     let mut rest = edges;
+    // A recipe answers by number: there is no slice of methods to go through.
     for number in 0..recipe.methods() {
         if let Some(method) = recipe.method(number) {
             // The nodes of all methods are few, so nothing is cut off here.

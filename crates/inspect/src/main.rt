@@ -1,11 +1,8 @@
 // Reads a recipe file from standard input and says in words what it holds, or why it is refused.
 #![tactic(auto)]
 
-ghost use Rattle.std.specs.Prelude.{◌≡◌, IfOk};
-ghost use Rattle.recipe.specs.Recipes.{own_edges};
-
-use recipe::{Edge, Recipe};
-use std::alloc::{AllocError, Global};
+use recipe::Recipe;
+use showing::{Refused, own_edges, recipe_of};
 use std::io::Read;
 
 mod explained;
@@ -22,19 +19,7 @@ use ruled::{first_entries, list_answers, list_watch};
 use transitions::list_rows;
 use written::write_back;
 
-// The edges of the recipe's own file, in its order.
-fn own_edges(heap: Global, recipe: &Recipe) -> Result<Vec<Edge>, AllocError>
-    ensures { IfOk result (λ v. v.items ≡ own_edges recipe.now) }
-{
-    let mut edges = Vec::new(heap);
-    for i in 0..recipe.edges() {
-        if let Some(e) = recipe.edge(i) {
-            edges.push(e)?;
-        }
-    }
-    Ok(edges)
-}
-
+// How long the file is, and how many of each kind the recipe has, as a line.
 fn print_counts(rt: &HostRuntime, recipe: &Recipe, bytes: usize) -> anyhow::Result<()> {
     let methods = recipe.methods();
     let nodes = recipe.nodes();
@@ -46,30 +31,28 @@ fn print_counts(rt: &HostRuntime, recipe: &Recipe, bytes: usize) -> anyhow::Resu
     Ok(())
 }
 
+// All that is told of a file.
 fn inspect(rt: &HostRuntime, file: &[u8]) -> anyhow::Result<()> {
-    let mut recipe = Recipe::built_in();
-    if let Err(refusal) = recipe::read(file, &mut recipe) {
-        rt.println(Explained(refusal))?;
-        return Ok(());
-    }
+    let recipe = match recipe_of(file) {
+        Ok(recipe) => recipe,
+        Err(refusal) => return Ok(rt.println(Explained(refusal))?),
+    };
     let edges = own_edges(rt.alloc(), &recipe)?;
     print_counts(rt, &recipe, file.len())?;
-    list_methods(rt, &recipe, edges.as_slice())?;
+    list_methods(rt, &recipe, &edges)?;
     list_rows(rt, &recipe)?;
     let entries = first_entries(rt.alloc(), &recipe)?;
-    list_answers(rt, &recipe, entries.as_slice())?;
+    list_answers(rt, &recipe, &entries)?;
     list_watch(rt, &recipe)?;
-    let written = write_back(rt.alloc(), &recipe, edges.as_slice(), file)?;
-    println!(rt; "written back: {written}")?;
+    match write_back(rt.alloc(), &recipe, &edges, file)? {
+        Ok(written) => println!(rt; "written back: {written}")?,
+        Err(refusal) => println!(rt; "written back: {}", Refused(refusal))?,
+    }
     Ok(())
 }
 
-fn run(rt: &HostRuntime) -> anyhow::Result<()> {
+fn main(rt: HostRuntime) -> anyhow::Result<()> {
     let mut file = Vec::new(rt.alloc());
     rt.stdin().read_to_end(&mut file)?;
-    inspect(rt, file.as_slice())
-}
-
-fn main(rt: HostRuntime) -> anyhow::Result<()> {
-    run(&rt)
+    inspect(&rt, &file)
 }

@@ -1,7 +1,7 @@
 // What both access rules make of each call and each check, and what the table watch does on the marks that the recipe uses.
-use crate::phrases::Rights;
 use recipe::{Kind, Recipe};
 use rules::{AccessRule, History, StackInspection, TableWatch, Watch};
+use showing::Rights;
 use std::alloc::{AllocError, Global};
 
 const EVERY_RIGHT: u32 = 65535;
@@ -9,19 +9,17 @@ const EVERY_RIGHT: u32 = 65535;
 // The first entry of each method, in the order of the methods: nodes come in that order, and each method has an entry.
 pub(crate) fn first_entries(heap: Global, recipe: &Recipe) -> Result<Vec<u32>, AllocError> {
     let mut entries = Vec::new(heap);
+    // No chain: whether a node is taken hangs on how many were.
     for n in 0..recipe.nodes() {
-        let entry = match recipe.node(n) {
-            Some(node) => node.entry,
-            None => false,
-        };
-        let home = recipe.method_of(n).unwrap_or(0) as usize;
-        if entry && home == entries.len() {
+        let home = recipe.method_of(n);
+        if recipe.node_at(n).entry && home.is_some_and(|home| home as usize == entries.len()) {
             entries.push(n)?;
         }
     }
     Ok(entries)
 }
 
+// What both rules make of a call, as a line.
 fn print_call(rt: &HostRuntime, recipe: &Recipe, call: u32, entry: u32) -> anyhow::Result<()> {
     let history = Rights(History.enter(recipe, EVERY_RIGHT, call, entry));
     let stack = Rights(StackInspection.enter(recipe, EVERY_RIGHT, call, entry));
@@ -31,16 +29,15 @@ fn print_call(rt: &HostRuntime, recipe: &Recipe, call: u32, entry: u32) -> anyho
     Ok(())
 }
 
+// What a rule does at a check.
 fn verb(passed: bool) -> &'static str {
     if passed { "passes" } else { "stops" }
 }
 
+// What both rules make of a check, as a line.
 fn print_check(rt: &HostRuntime, recipe: &Recipe, check: u32) -> anyhow::Result<()> {
-    let home = recipe.method_of(check).unwrap_or(0);
-    let own = match recipe.method(home) {
-        Some(method) => method.rights,
-        None => 0,
-    };
+    let home = recipe.method_of(check).and_then(|k| recipe.method(k));
+    let own = home.map_or(0, |method| method.rights);
     let history = verb(History.pass(recipe, own, check));
     let stack = verb(StackInspection.pass(recipe, own, check));
     println!(rt;
@@ -56,10 +53,7 @@ pub(crate) fn list_answers(
     entries: &[u32],
 ) -> anyhow::Result<()> {
     for n in 0..recipe.nodes() {
-        let Some(node) = recipe.node(n) else {
-            continue;
-        };
-        match node.kind {
+        match recipe.node_at(n).kind {
             Kind::Call { callee, .. } => {
                 let entry = entries.get(callee as usize).copied().unwrap_or(0);
                 print_call(rt, recipe, n, entry)?;
@@ -71,15 +65,9 @@ pub(crate) fn list_answers(
     Ok(())
 }
 
+// Whether a node has this mark.
 fn uses(recipe: &Recipe, mark: u32) -> bool {
-    for n in 0..recipe.nodes() {
-        if let Some(node) = recipe.node(n) {
-            if node.mark == mark {
-                return true;
-            }
-        }
-    }
-    false
+    (0..recipe.nodes()).any(|n| recipe.node_at(n).mark == mark)
 }
 
 // A line for each mark in use: where it leads from each state of the table watch.
@@ -88,17 +76,15 @@ pub(crate) fn list_watch(rt: &HostRuntime, recipe: &Recipe) -> anyhow::Result<()
     let states = watch.states();
     let start = watch.start();
     println!(rt; "watch of {states} states, from state {start}")?;
-    for mark in 0..32 {
-        if uses(recipe, mark) {
-            print!(rt; "  mark {mark}:")?;
-            for state in 0..states {
-                let next = watch.step(state, mark);
-                let bad = if watch.bad(next) { " (bad)" } else { "" };
-                let gap = if state == 0 { "" } else { "," };
-                print!(rt; "{gap} {state} to {next}{bad}")?;
-            }
-            println!(rt; "")?;
+    for mark in (0..32).filter(|mark| uses(recipe, *mark)) {
+        print!(rt; "  mark {mark}:")?;
+        for state in 0..states {
+            let next = watch.step(state, mark);
+            let bad = if watch.bad(next) { " (bad)" } else { "" };
+            let gap = if state == 0 { "" } else { "," };
+            print!(rt; "{gap} {state} to {next}{bad}")?;
         }
+        println!(rt; "")?;
     }
     Ok(())
 }

@@ -1,9 +1,9 @@
 // A node of a method, as one line.
-use crate::phrases::Rights;
 use recipe::{Edge, Kind, Node};
+use showing::Rights;
 use std::fmt;
 
-// What a node does.
+// What a node does; a type of its own, since Kind is of another crate.
 #[derive(Drop)]
 struct Action(Kind);
 
@@ -25,10 +25,7 @@ impl fmt::Display for Action {
                     "call method {callee}{privileged}, grant {grant}, accept {accept}"
                 )
             }
-            Kind::Check { required } => {
-                let required = Rights(required);
-                write!(f, "check {required}")
-            }
+            Kind::Check { required } => write!(f, "check {}", Rights(required)),
             Kind::Return => f.write_str("return"),
         }
     }
@@ -42,8 +39,7 @@ impl fmt::Display for Targets<'_> {
     fn fmt<W: fmt::Write>(&self, f: &mut fmt::Formatter<W>) -> fmt::Result {
         let mut before = "; then ";
         for edge in self.0 {
-            let to = edge.to;
-            write!(f, "{before}{to}")?;
+            write!(f, "{before}{}", edge.to)?;
             before = ", ";
         }
         Ok(())
@@ -60,11 +56,14 @@ pub(crate) struct Step<'a> {
 
 impl fmt::Display for Step<'_> {
     fn fmt<W: fmt::Write>(&self, f: &mut fmt::Formatter<W>) -> fmt::Result {
-        let number = self.number;
-        let entry = if self.node.entry { ", entry" } else { "" };
-        let action = Action(self.node.kind);
-        let mark = self.node.mark;
-        let targets = Targets(self.edges);
+        let Step {
+            number,
+            node: Node { kind, mark, entry },
+            edges,
+        } = self;
+        let entry = if *entry { ", entry" } else { "" };
+        let action = Action(*kind);
+        let targets = Targets(edges);
         write!(f, "node {number}{entry}: {action}; mark {mark}{targets}")
     }
 }

@@ -18,15 +18,15 @@ struct Lead {
 
 impl fmt::Display for Lead {
     fn fmt<W: fmt::Write>(&self, f: &mut fmt::Formatter<W>) -> fmt::Result {
-        let marks = self.marks;
-        match self.cell {
+        let Lead { marks, cell } = self;
+        match *cell {
             UNDEFINED => write!(f, "{marks} undefined"),
             row => write!(f, "{marks} to row {row}"),
         }
     }
 }
 
-// A row as runs of equal cells.
+// A row as runs of equal cells. It has no slice of cells; chunk_by over a list of them would count the marks by hand as well.
 fn list_row(rt: &impl Print, recipe: &Recipe, row: u32) -> io::Result<()> {
     print!(rt; "row {row}: ")?;
     let mut first = 0;
@@ -52,6 +52,7 @@ fn list_row(rt: &impl Print, recipe: &Recipe, row: u32) -> io::Result<()> {
     println!(rt; "")
 }
 
+// Each row, as a line.
 pub(crate) fn list_rows(rt: &impl Print, recipe: &Recipe) -> io::Result<()> {
     for row in 0..recipe.rows() {
         list_row(rt, recipe, row)?;

@@ -1,5 +1,5 @@
 // Writes a recipe's file again, reads what was written, and compares it with the file.
-ghost use Rattle.std.specs.Prelude.{◌≡◌, ◌<◌, length, IfOk, MatchResult};
+ghost use Rattle.std.specs.Prelude.{◌≡◌, ◌<◌, length, Ok, IfOk, MatchResult};
 ghost use Rattle.recipe.specs.Recipes.{file_of, program, own_edges};
 ghost use Rattle.recipe.specs.Writing.{file_with};
 ghost use Rattle.inspect.specs.declared.written.Written.TheVariants.{Same};
@@ -8,12 +8,11 @@ use recipe::{Edge, Recipe, Refusal};
 use std::alloc::{AllocError, Global};
 use std::fmt;
 
-// What came of writing the file again.
+// What was written again: the same file or another, and how long it is.
 #[derive(Clone, Copy)]
 pub(crate) enum Written {
     Same { bytes: usize },
     Other { bytes: usize },
-    Refused(Refusal),
 }
 
 impl fmt::Display for Written {
@@ -21,11 +20,6 @@ impl fmt::Display for Written {
         match self {
             Written::Same { bytes } => write!(f, "{bytes} bytes, the same file"),
             Written::Other { bytes } => write!(f, "{bytes} bytes, another file"),
-            Written::Refused(refusal) => {
-                let number = refusal.number();
-                let detail = refusal.detail();
-                write!(f, "refused {number} {detail}")
-            }
         }
     }
 }
@@ -54,17 +48,16 @@ pub(crate) fn write_back(
     recipe: &Recipe,
     edges: &[Edge],
     file: &[u8],
-) -> Result<Written, AllocError>
-    ensures { edges.now ≡ own_edges recipe.now → file.now ≡ file_of recipe.now → IfOk result (λ w. w ≡ Same (length file.now)) }
+) -> Result<Result<Written, Refusal>, AllocError>
+    ensures { edges.now ≡ own_edges recipe.now → file.now ≡ file_of recipe.now → IfOk result (λ w. w ≡ Ok (Same (length file.now))) }
 {
-    let mut out = vec![in heap; 0u8; file.len()]?;
-    match write_and_read(recipe, edges, out.as_mut_slice()) {
-        Ok(written) if written == file => Ok(Written::Same {
-            bytes: written.len(),
-        }),
-        Ok(written) => Ok(Written::Other {
-            bytes: written.len(),
-        }),
-        Err(refusal) => Ok(Written::Refused(refusal)),
-    }
+    let mut out = vec![in heap; 0; file.len()]?;
+    Ok(write_and_read(recipe, edges, &mut out).map(|written| {
+        let bytes = written.len();
+        if written == file {
+            Written::Same { bytes }
+        } else {
+            Written::Other { bytes }
+        }
+    }))
 }

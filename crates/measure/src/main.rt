@@ -3,11 +3,12 @@
 
 mod rings;
 
-use anyhow::anyhow;
+use anyhow::Context;
 use inquiry::{Fact, Report, inquire};
-use recipe::{Edge, Recipe};
+use recipe::Edge;
 use rings::Ring;
 use rules::{StackInspection, TableWatch};
+use showing::recipe_of;
 use std::env;
 use std::time::{Duration, Instant};
 
@@ -23,6 +24,7 @@ const MOST_EDGES: usize = 4096;
 // What is timed: the nodes of a ring and its entries. Each entry gives 16 facts for each node.
 const TIMED: [(u32, u32); 6] = [(64, 1), (64, 4), (64, 16), (64, 64), (1023, 1), (1023, 4)];
 
+// What stands in the tables at first, since neither type has a Default.
 const NO_FACT: Fact = Fact {
     entry: 0,
     brought: 0,
@@ -48,10 +50,7 @@ struct Timed {
 // Searches a ring until no fact is left to work, or no place.
 fn inquired(rt: &HostRuntime, ring: Ring, places: usize) -> anyhow::Result<Timed> {
     let file = ring.file(rt.alloc())?;
-    let mut recipe = Recipe::built_in();
-    if recipe::read(&file, &mut recipe).is_err() {
-        return Err(anyhow!("this ring is no recipe"));
-    }
+    let recipe = recipe_of(&file).ok().context("this ring is no recipe")?;
     let watch = TableWatch { recipe: &recipe };
     let mut facts = vec![in rt.alloc(); NO_FACT; places]?;
     let mut edges = vec![in rt.alloc(); NO_EDGE; MOST_EDGES]?;
@@ -65,20 +64,22 @@ fn inquired(rt: &HostRuntime, ring: Ring, places: usize) -> anyhow::Result<Timed
         u32::MAX,
     );
     let took = begin.elapsed(rt)?;
-    match answer {
-        Ok(report) => Ok(Timed { report, took }),
-        Err(_) => Err(anyhow!("the inquiry was refused")),
-    }
+    let report = answer.ok().context("the inquiry was refused")?;
+    Ok(Timed { report, took })
 }
 
+// What an inquiry into a ring came to, as a line.
 fn print_counts(rt: &HostRuntime, ring: Ring, report: &Report) -> anyhow::Result<()> {
-    let verdict = report.verdict;
-    let held = report.held;
-    let worked = report.worked;
+    let Report {
+        verdict,
+        held,
+        worked,
+    } = report;
     println!(rt; "{ring}: {verdict:?}, {held} facts held, {worked} worked")?;
     Ok(())
 }
 
+// How long it took, as a line.
 fn print_time(rt: &HostRuntime, timed: &Timed) -> anyhow::Result<()> {
     let seconds = timed.took.as_secs_f64();
     let rate = f64::from(timed.report.held) / seconds;
@@ -86,27 +87,19 @@ fn print_time(rt: &HostRuntime, timed: &Timed) -> anyhow::Result<()> {
     Ok(())
 }
 
+// What the usual rings come to.
 fn count_usual(rt: &HostRuntime) -> anyhow::Result<()> {
-    for calls in [false, true] {
-        let ring = Ring {
-            nodes: USUAL_NODES,
-            entries: 1,
-            calls,
-        };
+    for ring in Ring::both(USUAL_NODES, 1) {
         let timed = inquired(rt, ring, USUAL_PLACES)?;
         print_counts(rt, ring, &timed.report)?;
     }
     Ok(())
 }
 
+// What the rings that are timed come to, and how long each takes.
 fn time_all(rt: &HostRuntime) -> anyhow::Result<()> {
     for (nodes, entries) in TIMED {
-        for calls in [false, true] {
-            let ring = Ring {
-                nodes,
-                entries,
-                calls,
-            };
+        for ring in Ring::both(nodes, entries) {
             let timed = inquired(rt, ring, MOST_PLACES)?;
             print_counts(rt, ring, &timed.report)?;
             print_time(rt, &timed)?;
@@ -115,15 +108,9 @@ fn time_all(rt: &HostRuntime) -> anyhow::Result<()> {
     Ok(())
 }
 
-fn run(rt: &HostRuntime) -> anyhow::Result<()> {
-    let mut words = env::args(rt)?;
-    let _program = words.next();
-    match words.next() {
-        Some(word) if word.as_str() == "time" => time_all(rt),
-        _ => count_usual(rt),
-    }
-}
-
 fn main(rt: HostRuntime) -> anyhow::Result<()> {
-    run(&rt)
+    match env::args(&rt)?.nth(1) {
+        Some(word) if word.as_str() == "time" => time_all(&rt),
+        _ => count_usual(&rt),
+    }
 }

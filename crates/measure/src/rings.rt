@@ -1,6 +1,6 @@
 // Recipes with many facts: main is one ring of nodes, and each time round leads the watch on to its next row.
 use model::{Edge, Kind, Method, Node};
-use samples::building::Parts;
+use samples::building::{CALL, Parts};
 use std::alloc::{AllocError, Global};
 use std::fmt;
 
@@ -14,19 +14,14 @@ pub struct Ring {
 
 impl fmt::Display for Ring {
     fn fmt<W: fmt::Write>(&self, f: &mut fmt::Formatter<W>) -> fmt::Result {
-        let nodes = self.nodes;
-        let entries = self.entries;
         let calls = if self.calls { "with" } else { "without" };
-        write!(f, "{nodes} nodes, {entries} entries, {calls} calls")
+        write!(
+            f,
+            "{} nodes, {} entries, {calls} calls",
+            self.nodes, self.entries
+        )
     }
 }
-
-const CALL: Kind = Kind::Call {
-    callee: 1,
-    grant: 0,
-    accept: 0,
-    privileged: false,
-};
 
 // What a call of the ring goes into.
 const CALLEE: Node = Node {
@@ -35,18 +30,23 @@ const CALLEE: Node = Node {
     entry: true,
 };
 
-// 16 rows: mark 1 leads from each to the next, and from the last to the first; every other mark stays.
-fn rows(heap: Global) -> Result<Vec<u8>, AllocError> {
-    let mut cells = Vec::new(heap);
-    for row in 0..16 {
-        for mark in 0..32 {
-            cells.push(if mark == 1 { (row + 1) % 16 } else { row })?;
-        }
-    }
-    Ok(cells)
+// A row of 16: mark 1 leads to the next one, and from the last to the first; every other mark stays.
+fn row(number: u8) -> [u8; 32] {
+    let mut cells = [number; 32];
+    cells[1] = if number < 15 { number + 1 } else { 0 };
+    cells
 }
 
 impl Ring {
+    // A ring of so many nodes and entries, without calls and with them.
+    pub fn both(nodes: u32, entries: u32) -> [Ring; 2] {
+        [false, true].map(|calls| Ring {
+            nodes,
+            entries,
+            calls,
+        })
+    }
+
     // The node with a number: the first one has mark 1.
     fn node(&self, n: u32) -> Node {
         Node {
@@ -55,7 +55,7 @@ impl Ring {
             } else {
                 Kind::Nop
             },
-            mark: if n == 0 { 1 } else { 0 },
+            mark: u32::from(n == 0),
             entry: n < self.entries,
         }
     }
@@ -71,13 +71,9 @@ impl Ring {
 
     // The file of the recipe.
     pub fn file(&self, heap: Global) -> Result<Vec<u8>, AllocError> {
-        let mut nodes = Vec::new(heap);
-        let mut edges = Vec::new(heap);
-        for n in 0..self.nodes {
-            nodes.push(self.node(n))?;
-            edges.push(self.edge(n))?;
-        }
+        let mut nodes: Vec<Node> = (0..self.nodes).map(|n| self.node(n)).collect(heap)?;
         nodes.push(CALLEE)?;
+        let edges: Vec<Edge> = (0..self.nodes).map(|n| self.edge(n)).collect(heap)?;
         let methods = [
             Method {
                 rights: 3,
@@ -88,7 +84,7 @@ impl Ring {
                 nodes: 1,
             },
         ];
-        let rows = rows(heap)?;
+        let rows: Vec<[u8; 32]> = (0..16).map(row).collect(heap)?;
         let parts = Parts {
             methods: &methods,
             nodes: &nodes,

@@ -9,9 +9,16 @@ pub struct Parts<'a> {
     pub methods: &'a [Method],
     pub nodes: &'a [Node],
     pub edges: &'a [Edge],
-    // 32 cells each
-    pub rows: &'a [u8],
+    pub rows: &'a [[u8; 32]],
 }
+
+// A call of method 1 that grants and accepts nothing.
+pub const CALL: Kind = Kind::Call {
+    callee: 1,
+    grant: 0,
+    accept: 0,
+    privileged: false,
+};
 
 // The two lesser bytes of a number, the greater one first.
 fn word(n: u32) -> [u8; 2] {
@@ -21,7 +28,7 @@ fn word(n: u32) -> [u8; 2] {
 
 // The record of a node: kind, mark, flags, callee, grant, accept.
 fn node_record(node: Node) -> [u8; 8] {
-    let entry = if node.entry { 1 } else { 0 };
+    let entry = u8::from(node.entry);
     let (kind, flags, callee, grant, accept) = match node.kind {
         Kind::Nop => (0, entry, 0, 0, 0),
         Kind::Call {
@@ -29,13 +36,7 @@ fn node_record(node: Node) -> [u8; 8] {
             grant,
             accept,
             privileged,
-        } => (
-            1,
-            if privileged { entry | 2 } else { entry },
-            callee,
-            grant,
-            accept,
-        ),
+        } => (1, entry | u8::from(privileged) << 1, callee, grant, accept),
         Kind::Check { required } => (2, entry, 0, required, 0),
         Kind::Return => (3, entry, 0, 0, 0),
     };
@@ -51,6 +52,7 @@ fn end(place: u32, wide: u32, count: u32) -> u32 {
     wide.wrapping_mul(count).wrapping_add(place)
 }
 
+// How many records there are, as far as a file can say.
 fn count(len: usize) -> u32 {
     len.min(65535) as u32
 }
@@ -64,7 +66,7 @@ impl Parts<'_> {
         let nodes_at = end(16, 4, methods);
         let edges_at = end(nodes_at, 8, nodes);
         let rows_at = end(edges_at, 4, edges);
-        let rows = count(self.rows.len() / 32);
+        let rows = count(self.rows.len());
         [16, methods, nodes_at, nodes, edges_at, edges, rows_at, rows]
     }
 
@@ -85,7 +87,9 @@ impl Parts<'_> {
             file.extend_from_slice(&word(e.from))?;
             file.extend_from_slice(&word(e.to))?;
         }
-        file.extend_from_slice(self.rows)?;
+        for cells in self.rows {
+            file.extend_from_slice(cells)?;
+        }
         Ok(file)
     }
 }
@@ -103,8 +107,8 @@ pub fn blank(heap: Global, contents: [u16; 8], len: usize) -> Result<Vec<u8>, Al
 // A copy of a file with some of its bytes changed. A change past the end would test nothing, so it fails.
 pub fn changed(heap: Global, file: &[u8], changes: &[(usize, u8)]) -> Result<Vec<u8>, Fail> {
     let mut copy = file.to_vec(heap)?;
-    for (at, byte) in changes {
-        *copy.get_mut(*at).ok_or("a change past the end")? = *byte;
+    for &(at, byte) in changes {
+        *copy.get_mut(at).ok_or("a change past the end")? = byte;
     }
     Ok(copy)
 }

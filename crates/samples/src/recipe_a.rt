@@ -2,7 +2,7 @@
 // Its bytes are handed out by functions, so that a proof of a test does not have to carry each of them.
 ghost use Rattle.std.specs.Prelude.{◌≡◌, length};
 
-use crate::building::Parts;
+use crate::building::{CALL, Parts};
 use model::{Edge, Kind, Method, Node};
 
 static METHODS: [Method; 3] = [
@@ -22,12 +22,7 @@ static METHODS: [Method; 3] = [
 
 static NODES: [Node; 7] = [
     Node {
-        kind: Kind::Call {
-            callee: 1,
-            grant: 0,
-            accept: 0,
-            privileged: false,
-        },
+        kind: CALL,
         mark: 0,
         entry: true,
     },
@@ -76,10 +71,16 @@ static EDGES: [Edge; 4] = [
 ];
 
 // Row 0 goes on to row 1 at mark 1, and row 1 leads nowhere at mark 2; else both stay.
-static ROWS: &[u8; 64] = b"\x00\x01\x00\x00\x00\x00\x00\x00\x00\x00\x00\x00\x00\x00\x00\x00\
-    \x00\x00\x00\x00\x00\x00\x00\x00\x00\x00\x00\x00\x00\x00\x00\x00\
-    \x01\x01\xff\x01\x01\x01\x01\x01\x01\x01\x01\x01\x01\x01\x01\x01\
-    \x01\x01\x01\x01\x01\x01\x01\x01\x01\x01\x01\x01\x01\x01\x01\x01";
+static ROWS: [[u8; 32]; 2] = [
+    [
+        0, 1, 0, 0, 0, 0, 0, 0, 0, 0, 0, 0, 0, 0, 0, 0, 0, 0, 0, 0, 0, 0, 0, 0, 0, 0, 0, 0, 0, 0,
+        0, 0,
+    ],
+    [
+        1, 1, 255, 1, 1, 1, 1, 1, 1, 1, 1, 1, 1, 1, 1, 1, 1, 1, 1, 1, 1, 1, 1, 1, 1, 1, 1, 1, 1, 1,
+        1, 1,
+    ],
+];
 
 // What the file is made of.
 pub fn parts() -> Parts<'static> {
@@ -87,7 +88,7 @@ pub fn parts() -> Parts<'static> {
         methods: &METHODS,
         nodes: &NODES,
         edges: &EDGES,
-        rows: ROWS,
+        rows: &ROWS,
     }
 }
 
@@ -112,6 +113,7 @@ static FILE: &[u8; 164] = b"\x00\x10\x00\x03\x00\x1c\x00\x07\x00\x54\x00\x04\x00
     \x01\x01\xff\x01\x01\x01\x01\x01\x01\x01\x01\x01\x01\x01\x01\x01\
     \x01\x01\x01\x01\x01\x01\x01\x01\x01\x01\x01\x01\x01\x01\x01\x01";
 
+// The bytes of the file.
 pub fn file() -> &'static [u8]
     ensures { length result.now ≡ 164 }
 {

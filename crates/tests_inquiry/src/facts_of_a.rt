@@ -1,10 +1,10 @@
 // The facts of recipe A, worked out by hand from the four rules.
-use crate::tables::{Expected, Row, check_counts, check_inquiry};
-use inquiry::Verdict;
-use recipe::{Recipe, read};
-use rules::{History, StackInspection, TableWatch, WallWatch};
+use crate::tables::{Row, Scene, all_worked};
+use inquiry::{Report, Verdict};
+use recipe::Recipe;
+use rules::{AccessRule, History, StackInspection, TableWatch, WallWatch};
 use samples::recipe_a;
-use std::alloc::Global;
+use showing::recipe_of;
 use std::process::Abort;
 use std::test::Fail;
 
@@ -27,51 +27,34 @@ static STACK: [Row; 7] = [
     [0, 3, 0, 2, 3, 2, 4, 3, 6, 7],
 ];
 
+// The rows under history: handed out by a function, so that a proof of a test does not have to carry each of them.
 pub fn history_rows() -> &'static [Row] {
     &HISTORY
 }
 
+// The rows under stack inspection.
 pub fn stack_rows() -> &'static [Row] {
     &STACK
 }
 
 #[test]
 fn both_tables_place_by_place(rt: HostRuntime) -> Result<(), Fail> {
-    let mut recipe = Recipe::built_in();
-    assert!(rt; read(recipe_a::file(), &mut recipe).is_ok());
-    let watch = TableWatch { recipe: &recipe };
-    let safe = Expected {
-        verdict: Verdict::Safe,
-        held: 4,
-        worked: 4,
+    let recipe = &recipe_of(recipe_a::file())?;
+    let watch = TableWatch { recipe };
+    let history = Scene {
+        recipe,
+        rule: History,
+        watch,
     };
-    check_inquiry(
-        &rt,
-        rt.alloc(),
-        &recipe,
-        &History,
-        &watch,
-        9,
-        safe,
-        history_rows(),
-        "history",
-    )?;
-    let bad = Expected {
-        verdict: Verdict::Unsafe,
-        held: 7,
-        worked: 7,
+    let safe = all_worked(Verdict::Safe, 4);
+    history.check_rows(&rt, 9, safe, history_rows(), "history")?;
+    let stack = Scene {
+        recipe,
+        rule: StackInspection,
+        watch,
     };
-    check_inquiry(
-        &rt,
-        rt.alloc(),
-        &recipe,
-        &StackInspection,
-        &watch,
-        12,
-        bad,
-        stack_rows(),
-        "stack inspection",
-    )
+    let bad = all_worked(Verdict::Unsafe, 7);
+    stack.check_rows(&rt, 12, bad, stack_rows(), "stack inspection")
 }
 
 // Two marks of a wall, and the verdicts under history and under stack inspection.
@@ -82,37 +65,31 @@ const WALLS: [(u32, u32, Verdict, Verdict); 3] = [
     (0, 1, Verdict::Unsafe, Verdict::Unsafe),
 ];
 
-fn check_wall(
-    rt: &impl Abort,
-    heap: Global,
+// What an inquiry with a wall comes to under a rule.
+fn check_wall<R: AccessRule + Drop>(
+    rt: &(impl Abort + AllocGlobal),
     recipe: &Recipe,
-    watch: &WallWatch,
-    history: Verdict,
-    stack: Verdict,
-    case: &str,
+    rule: R,
+    watch: WallWatch,
+    expected: Report,
 ) -> Result<(), Fail> {
-    let history = Expected {
-        verdict: history,
-        held: 4,
-        worked: 4,
+    let WallWatch { one, two } = watch;
+    let case = format!(in rt.alloc(); "the wall of marks {one} and {two}")?;
+    let scene = Scene {
+        recipe,
+        rule,
+        watch,
     };
-    check_counts(rt, heap, recipe, &History, watch, history, case)?;
-    let stack = Expected {
-        verdict: stack,
-        held: 7,
-        worked: 7,
-    };
-    check_counts(rt, heap, recipe, &StackInspection, watch, stack, case)
+    scene.check_report(rt, expected, &case)
 }
 
 #[test]
 fn both_rules_with_walls(rt: HostRuntime) -> Result<(), Fail> {
-    let mut recipe = Recipe::built_in();
-    assert!(rt; read(recipe_a::file(), &mut recipe).is_ok());
+    let recipe = recipe_of(recipe_a::file())?;
     for (one, two, history, stack) in WALLS {
         let watch = WallWatch { one, two };
-        let case = format!(in rt.alloc(); "the wall of marks {one} and {two}")?;
-        check_wall(&rt, rt.alloc(), &recipe, &watch, history, stack, &case)?;
+        check_wall(&rt, &recipe, History, watch, all_worked(history, 4))?;
+        check_wall(&rt, &recipe, StackInspection, watch, all_worked(stack, 7))?;
     }
     Ok(())
 }

@@ -1,22 +1,16 @@
 // Recipes that call themselves, and several entries: the facts were worked out by hand.
-use crate::tables::{Expected, Row, check_counts, check_inquiry};
+use crate::tables::{Row, Scene, all_worked};
 use inquiry::Verdict;
 use model::{Method, Node};
-use recipe::{Edge, Kind, Recipe, read};
+use recipe::{Edge, Kind};
 use rules::{History, StackInspection, WallWatch};
-use samples::building::Parts;
-use std::alloc::Global;
+use samples::building::{CALL, Parts};
+use showing::recipe_of;
+use std::alloc::{AllocError, Global};
 use std::test::Fail;
 
 const CALL_MAIN: Kind = Kind::Call {
     callee: 0,
-    grant: 0,
-    accept: 0,
-    privileged: false,
-};
-
-const CALL: Kind = Kind::Call {
-    callee: 1,
     grant: 0,
     accept: 0,
     privileged: false,
@@ -30,7 +24,7 @@ const CALL_ACCEPTING: Kind = Kind::Call {
     privileged: false,
 };
 
-// A node's kind, mark, and whether it is an entry.
+// A node's kind, mark, and whether it is an entry: a node in one line.
 type Made = (Kind, u32, bool);
 
 // Main goes from its entry to its end, or calls itself first.
@@ -107,114 +101,70 @@ static TWO_ROWS: [Row; 13] = [
 ];
 
 // The file of a recipe with no rows.
-fn file<'a>(
+fn file(
     heap: Global,
-    methods: &'a [Method],
+    methods: &[Method],
     made: &[Made],
-    edges: &'a [Edge],
-) -> Result<Vec<u8>, Fail> {
-    let mut nodes = Vec::new(heap);
-    for (kind, mark, entry) in made {
-        nodes.push(Node {
-            kind: *kind,
-            mark: *mark,
-            entry: *entry,
-        })?;
-    }
+    edges: &[Edge],
+) -> Result<Vec<u8>, AllocError> {
+    let nodes: Vec<Node> = made
+        .iter()
+        .map(|&(kind, mark, entry)| Node { kind, mark, entry })
+        .collect(heap)?;
     let parts = Parts {
         methods,
         nodes: &nodes,
         edges,
         rows: &[],
     };
-    Ok(parts.file(heap)?)
+    parts.file(heap)
 }
 
 #[test]
 fn main_calls_itself(rt: HostRuntime) -> Result<(), Fail> {
     let file = file(rt.alloc(), &SELF_METHODS, &SELF_NODES, &SELF_EDGES)?;
-    let mut recipe = Recipe::built_in();
-    assert!(rt; read(&file, &mut recipe).is_ok());
+    let recipe = &recipe_of(&file)?;
     let watch = WallWatch { one: 1, two: 2 };
-    let expected = Expected {
-        verdict: Verdict::Unsafe,
-        held: 3,
-        worked: 3,
+    let history = Scene {
+        recipe,
+        rule: History,
+        watch,
     };
-    check_inquiry(
-        &rt,
-        rt.alloc(),
-        &recipe,
-        &History,
-        &watch,
-        5,
-        expected,
-        &SELF_ROWS,
-        "history",
-    )?;
-    check_inquiry(
-        &rt,
-        rt.alloc(),
-        &recipe,
-        &StackInspection,
-        &watch,
-        3,
-        expected,
-        &SELF_ROWS,
-        "stack inspection",
-    )
+    let bad = all_worked(Verdict::Unsafe, 3);
+    history.check_rows(&rt, 5, bad, &SELF_ROWS, "history")?;
+    let stack = Scene {
+        recipe,
+        rule: StackInspection,
+        watch,
+    };
+    let bad = all_worked(Verdict::Unsafe, 3);
+    stack.check_rows(&rt, 3, bad, &SELF_ROWS, "stack inspection")
 }
 
 #[test]
 fn entries_and_a_callee_that_calls_itself(rt: HostRuntime) -> Result<(), Fail> {
     let file = file(rt.alloc(), &TWO_METHODS, &TWO_NODES, &TWO_EDGES)?;
-    let mut recipe = Recipe::built_in();
-    assert!(rt; read(&file, &mut recipe).is_ok());
-    let watch = WallWatch { one: 1, two: 2 };
-    let expected = Expected {
-        verdict: Verdict::Unsafe,
-        held: 13,
-        worked: 13,
+    let recipe = &recipe_of(&file)?;
+    let history = Scene {
+        recipe,
+        rule: History,
+        watch: WallWatch { one: 1, two: 2 },
     };
-    check_inquiry(
-        &rt,
-        rt.alloc(),
-        &recipe,
-        &History,
-        &watch,
-        16,
-        expected,
-        &TWO_ROWS,
-        "history",
-    )?;
-    for (two, verdict, held) in [(2, Verdict::Unsafe, 15), (7, Verdict::Safe, 15)] {
-        let expected = Expected {
-            verdict,
-            held,
-            worked: held,
+    let bad = all_worked(Verdict::Unsafe, 13);
+    history.check_rows(&rt, 16, bad, &TWO_ROWS, "history")?;
+    for (two, verdict) in [(2, Verdict::Unsafe), (7, Verdict::Safe)] {
+        let stack = Scene {
+            recipe,
+            rule: StackInspection,
+            watch: WallWatch { one: 1, two },
         };
-        check_counts(
-            &rt,
-            rt.alloc(),
-            &recipe,
-            &StackInspection,
-            &WallWatch { one: 1, two },
-            expected,
-            "stack inspection",
-        )?;
+        stack.check_report(&rt, all_worked(verdict, 15), "stack inspection")?;
     }
-    let safe = Expected {
-        verdict: Verdict::Safe,
-        held: 13,
-        worked: 13,
+    let other = Scene {
+        recipe,
+        rule: History,
+        watch: WallWatch { one: 1, two: 7 },
     };
-    check_counts(
-        &rt,
-        rt.alloc(),
-        &recipe,
-        &History,
-        &WallWatch { one: 1, two: 7 },
-        safe,
-        "history, with another wall",
-    )
+    let safe = all_worked(Verdict::Safe, 13);
+    other.check_report(&rt, safe, "history, with another wall")
 }

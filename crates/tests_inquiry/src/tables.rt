@@ -2,7 +2,8 @@
 use inquiry::{Fact, Report, Verdict, inquire};
 use recipe::{Edge, Recipe, Refusal};
 use rules::{AccessRule, Watch};
-use std::alloc::Global;
+use std::alloc::{AllocError, Global};
+use std::fmt::Debug;
 use std::process::Abort;
 use std::test::Fail;
 
@@ -25,6 +26,7 @@ pub const MARK_EDGE: Edge = Edge { from: 911, to: 912 };
 // The ten numbers of a fact, in the order of its fields.
 pub type Row = [u32; 10];
 
+// The fact of a row. A fact written out takes a dozen lines, so the tables of the tests are rows.
 fn fact(row: Row) -> Fact {
     let [
         entry,
@@ -52,87 +54,119 @@ fn fact(row: Row) -> Fact {
     }
 }
 
+// The table begins with these, and no place past them was written.
+fn check_places<T: Copy + PartialEq + Debug>(rt: &impl Abort, table: &[T], front: &[T], mark: T) {
+    assert!(rt; front.len() <= table.len());
+    let (written, rest) = table.split_at(front.len());
+    assert_eq!(rt; written, front);
+    // the first place past them that was written, if any
+    assert_eq!(rt; rest.iter().position(|place| *place != mark), None);
+}
+
 // The rows stand in the first places, and nothing was written past them.
-pub fn check_rows(rt: &impl Abort, facts: &[Fact], rows: &[Row]) {
-    assert!(rt; rows.len() <= facts.len());
-    for (place, found) in facts.iter().enumerate() {
-        let expected = match rows.get(place) {
-            Some(row) => fact(*row),
-            None => MARK,
-        };
-        assert_eq!(rt; *found, expected, "place {place}");
+pub fn check_facts(
+    rt: &(impl Abort + AllocGlobal),
+    facts: &[Fact],
+    rows: &[Row],
+) -> Result<(), Fail> {
+    let expected: Vec<Fact> = rows.iter().map(|row| fact(*row)).collect(rt.alloc())?;
+    check_places(rt, facts, &expected, MARK);
+    Ok(())
+}
+
+// So many of the first rows.
+pub fn first_rows(rows: &[Row], held: u32) -> Result<&[Row], &'static str> {
+    rows.get(..held as usize)
+        .ok_or("more facts are held than there are rows")
+}
+
+// The table holds these edges first, and nothing was written past them.
+pub fn check_edges(rt: &impl Abort, edges: &[Edge], own: &[Edge]) {
+    check_places(rt, edges, own, MARK_EDGE);
+}
+
+// The report of an inquiry that worked all facts that it held.
+pub fn all_worked(verdict: Verdict, facts: u32) -> Report {
+    Report {
+        verdict,
+        held: facts,
+        worked: facts,
     }
 }
 
-// What an inquiry should come to.
-#[derive(Clone, Copy)]
-pub struct Expected {
-    pub verdict: Verdict,
-    pub held: u32,
-    pub worked: u32,
+// What is inquired into: a recipe under a rule, with a watch.
+#[derive(Drop)]
+pub struct Scene<'r, 'f, R, W> {
+    pub recipe: &'r Recipe<'f>,
+    pub rule: R,
+    pub watch: W,
 }
 
-// Of an inquiry, which a failure names as its case.
-pub fn check_report(
-    rt: &impl Abort,
-    answer: Result<Report, Refusal>,
-    expected: Expected,
-    case: &str,
-) -> Result<(), Fail> {
-    let Ok(report) = answer else {
-        return Err(Fail::new("the inquiry was refused"));
-    };
-    let Expected {
-        verdict,
-        held,
-        worked,
-    } = expected;
-    assert_eq!(rt;
-        report,
-        Report {
-            verdict,
-            held,
-            worked,
-        },
-        "{case}"
-    );
-    Ok(())
+// The tables of an inquiry.
+#[derive(Drop)]
+pub struct Tables {
+    pub facts: Vec<Fact>,
+    pub edges: Vec<Edge>,
 }
 
-// Searches with so many fact places and as many edge places as there are edges; of the rows as many are held as the report says.
-pub fn check_inquiry<R: AccessRule, W: Watch>(
-    rt: &impl Abort,
-    heap: Global,
-    recipe: &Recipe,
-    rule: &R,
-    watch: &W,
-    places: usize,
-    expected: Expected,
-    rows: &[Row],
-    case: &str,
-) -> Result<(), Fail> {
-    let mut facts = vec![in heap; MARK; places]?;
-    let mut edges = vec![in heap; MARK_EDGE; recipe.edges() as usize]?;
-    let answer = inquire(recipe, rule, watch, &mut facts, &mut edges, u32::MAX);
-    check_report(rt, answer, expected, case)?;
-    let held = expected.held as usize;
-    assert!(rt; held <= rows.len());
-    check_rows(rt, &facts, &rows[0..held]);
-    Ok(())
+impl Tables {
+    // So many places for facts and for edges, each of them marked.
+    pub fn marked(heap: Global, facts: usize, edges: usize) -> Result<Tables, AllocError> {
+        Ok(Tables {
+            facts: vec![in heap; MARK; facts]?,
+            edges: vec![in heap; MARK_EDGE; edges]?,
+        })
+    }
 }
 
-// The same, where the rows were not worked out: only the report is compared.
-pub fn check_counts<R: AccessRule, W: Watch>(
-    rt: &impl Abort,
-    heap: Global,
-    recipe: &Recipe,
-    rule: &R,
-    watch: &W,
-    expected: Expected,
-    case: &str,
-) -> Result<(), Fail> {
-    let mut facts = vec![in heap; MARK; 32]?;
-    let mut edges = vec![in heap; MARK_EDGE; recipe.edges() as usize]?;
-    let answer = inquire(recipe, rule, watch, &mut facts, &mut edges, u32::MAX);
-    check_report(rt, answer, expected, case)
+impl<R: AccessRule, W: Watch> Scene<'_, '_, R, W> {
+    // A whole inquiry in these tables.
+    pub fn inquire(&self, tables: &mut Tables, allowed: u32) -> Result<Report, Refusal> {
+        inquire(
+            self.recipe,
+            &self.rule,
+            &self.watch,
+            &mut tables.facts,
+            &mut tables.edges,
+            allowed,
+        )
+    }
+
+    // What an inquiry reports that has so many fact places, and as many edge places as there are edges; gives back its tables.
+    fn reported(
+        &self,
+        rt: &(impl Abort + AllocGlobal),
+        places: usize,
+        expected: Report,
+        case: &str,
+    ) -> Result<Tables, AllocError> {
+        let mut tables = Tables::marked(rt.alloc(), places, self.recipe.edges() as usize)?;
+        assert_eq!(rt; self.inquire(&mut tables, u32::MAX), Ok(expected), "{case}");
+        Ok(tables)
+    }
+
+    // The report of an inquiry in so many places, and the rows that it finds, of which as many are held as the report says.
+    pub fn check_rows(
+        &self,
+        rt: &(impl Abort + AllocGlobal),
+        places: usize,
+        expected: Report,
+        rows: &[Row],
+        case: &str,
+    ) -> Result<(), Fail> {
+        let rows = first_rows(rows, expected.held)?;
+        let tables = self.reported(rt, places, expected, case)?;
+        check_facts(rt, &tables.facts, rows)
+    }
+
+    // The report alone, in enough places, where the rows were not worked out.
+    pub fn check_report(
+        &self,
+        rt: &(impl Abort + AllocGlobal),
+        expected: Report,
+        case: &str,
+    ) -> Result<(), Fail> {
+        self.reported(rt, 32, expected, case)?;
+        Ok(())
+    }
 }

@@ -1,9 +1,10 @@
 // An edge table that is written to between the opening and a dig: only the places in use are read, and only edges that count lead on.
-use crate::tables::{Expected, MARK, MARK_EDGE, check_report};
-use inquiry::{Fact, Inquiry, Report, Verdict};
-use recipe::{Edge, Recipe, Refusal, read};
+use crate::tables::{MARK, MARK_EDGE, all_worked};
+use inquiry::{Inquiry, Report, Verdict};
+use recipe::{Edge, Recipe, Refusal};
 use rules::{StackInspection, TableWatch};
 use samples::recipe_a;
+use showing::recipe_of;
 use std::test::Fail;
 
 // A place of the table and the edge that is put there, the verdict, and how many facts there are.
@@ -18,42 +19,30 @@ const TAMPERED: [(usize, u32, u32, Verdict, u32); 6] = [
     // an edge by the rules counts, also where the file has another
     (3, 5, 4, Verdict::Unsafe, 6),
     // to no node
-    (3, 5, 4294967295, Verdict::Unsafe, 5),
+    (3, 5, u32::MAX, Verdict::Unsafe, 5),
 ];
 
 // Opens, puts an edge into the table, and digs. The fifth place, which is not in use, has an edge that would count behind 5-4.
-fn dig_tampered(
-    recipe: &Recipe,
-    facts: &mut [Fact],
-    edges: &mut [Edge; 5],
-    place: usize,
-    edge: Edge,
-) -> Result<Report, Refusal> {
+fn dig_tampered(recipe: &Recipe, place: usize, edge: Edge) -> Result<Report, Refusal> {
     let watch = TableWatch { recipe };
-    let mut inquiry = Inquiry::open(recipe, &StackInspection, &watch, facts, edges);
-    if place < 5 {
-        edges[place] = edge;
+    let mut facts = [MARK; 9];
+    let mut edges = [MARK_EDGE; 5];
+    let mut inquiry = Inquiry::open(recipe, &StackInspection, &watch, &mut facts, &mut edges);
+    if let Some(tampered) = edges.get_mut(place) {
+        *tampered = edge;
     }
     edges[4] = Edge { from: 5, to: 6 };
-    let _ = inquiry.dig(recipe, &StackInspection, &watch, edges, 99);
+    let _ = inquiry.dig(recipe, &StackInspection, &watch, &edges, 99);
     inquiry.close(&watch)
 }
 
 #[test]
 fn tampered_edges_count_by_the_rules(rt: HostRuntime) -> Result<(), Fail> {
-    let mut recipe = Recipe::built_in();
-    assert!(rt; read(recipe_a::file(), &mut recipe).is_ok());
+    let recipe = recipe_of(recipe_a::file())?;
     for (place, from, to, verdict, facts) in TAMPERED {
-        let mut table = [MARK; 9];
-        let mut edges = [MARK_EDGE; 5];
-        let report = dig_tampered(&recipe, &mut table, &mut edges, place, Edge { from, to });
-        let expected = Expected {
-            verdict,
-            held: facts,
-            worked: facts,
-        };
-        let case = format!(in rt.alloc(); "place {place}: {from}-{to}")?;
-        check_report(&rt, report, expected, &case)?;
+        let report = dig_tampered(&recipe, place, Edge { from, to });
+        let expected = all_worked(verdict, facts);
+        assert_eq!(rt; report, Ok(expected), "place {place}: {from}-{to}");
     }
     Ok(())
 }

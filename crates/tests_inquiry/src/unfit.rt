@@ -1,143 +1,108 @@
 // What does not fit is refused by fit, and by every call of the void inquiry, which writes nothing.
 use crate::idle::Idle;
-use crate::tables::{MARK, MARK_EDGE, check_rows};
-use inquiry::{Fact, Inquiry, fit, inquire};
-use recipe::{Edge, Recipe, Refusal, read};
+use crate::tables::{Scene, Tables, check_edges, check_facts};
+use inquiry::{Inquiry, fit};
+use recipe::Refusal::{self, TooMany, UnfitTable};
 use rules::{AccessRule, TableWatch, Watch};
 use samples::recipe_a;
-use std::alloc::Global;
+use showing::recipe_of;
 use std::process::Abort;
 use std::test::Fail;
 
-// Fact places, edge places, and the number of the refusal, or 0. Recipe A has four edges.
-const TABLES: [(usize, usize, u32); 8] = [
-    (0, 4, 0),
-    (7, 3, 9),
-    (7, 0, 9),
-    (7, 4096, 0),
-    (7, 4097, 9),
-    (65536, 4, 0),
-    (65537, 4, 9),
-    (65537, 4097, 9),
+// What a call answers, but for what an inquiry comes to.
+type Answer = Result<(), Refusal>;
+
+// Fact places, edge places, and what each call answers. Recipe A has four edges.
+const TABLES: [(usize, usize, Answer); 8] = [
+    (0, 4, Ok(())),
+    (7, 3, Err(UnfitTable)),
+    (7, 0, Err(UnfitTable)),
+    (7, 4096, Ok(())),
+    (7, 4097, Err(UnfitTable)),
+    (65536, 4, Ok(())),
+    (65537, 4, Err(UnfitTable)),
+    (65537, 4097, Err(UnfitTable)),
 ];
 
-// How many more than 65,535 values and states there are, edge places, and the number: too many values or states come first.
-const COUNTS: [(u16, u16, usize, u32); 6] = [
-    (1, 1, 4, 0),
-    (0, 0, 4, 0),
-    (2, 1, 4, 7),
-    (1, 2, 4, 7),
-    (2, 2, 3, 7),
-    (1, 1, 3, 9),
+// How many more than 65,535 values and states there are, edge places, and the answer: too many values or states come first.
+const COUNTS: [(u16, u16, usize, Answer); 6] = [
+    (1, 1, 4, Ok(())),
+    (0, 0, 4, Ok(())),
+    (2, 1, 4, Err(TooMany)),
+    (1, 2, 4, Err(TooMany)),
+    (2, 2, 3, Err(TooMany)),
+    (1, 1, 3, Err(UnfitTable)),
 ];
 
-fn number<T: Drop>(answer: Result<T, Refusal>) -> u32 {
-    match answer {
-        Ok(_) => 0,
-        Err(refusal) => refusal.number(),
-    }
+// What a dig, a verdict and the end of an inquiry answer.
+fn told<R: AccessRule, W: Watch>(scene: &Scene<R, W>, tables: &mut Tables) -> [Answer; 3] {
+    let Scene {
+        recipe,
+        rule,
+        watch,
+    } = scene;
+    let mut inquiry = Inquiry::open(recipe, rule, watch, &mut tables.facts, &mut tables.edges);
+    let dug = inquiry.dig(recipe, rule, watch, &tables.edges, 9);
+    let verdict = inquiry.verdict(watch);
+    let closed = inquiry.close(watch);
+    [dug.map(|_| ()), verdict.map(|_| ()), closed.map(|_| ())]
 }
 
-// The numbers of a dig, a verdict and the end of an inquiry.
-fn told<R: AccessRule, W: Watch>(
-    recipe: &Recipe,
-    rule: &R,
-    watch: &W,
-    facts: &mut [Fact],
-    edges: &mut [Edge],
-) -> [u32; 3] {
-    let mut inquiry = Inquiry::open(recipe, rule, watch, facts, edges);
-    let dug = number(inquiry.dig(recipe, rule, watch, edges, 9));
-    let verdict = number(inquiry.verdict(watch));
-    let closed = number(inquiry.close(watch));
-    [dug, verdict, closed]
-}
-
-// The table holds these edges first, and nothing was written past them.
-fn check_edges(rt: &impl Abort, edges: &[Edge], own: &[Edge]) -> Result<(), Fail> {
-    for (place, found) in edges.iter().enumerate() {
-        let expected = own.get(place).copied().unwrap_or(MARK_EDGE);
-        assert_eq!(rt; *found, expected, "edge place {place}");
-    }
-    Ok(())
-}
-
-// Every call answers the same number, and a refusal leaves both tables; else the edges are copied.
+// Every call answers alike, and a refusal leaves both tables; else the edges are copied.
 fn check_fit<R: AccessRule, W: Watch>(
-    rt: &impl Abort,
-    heap: Global,
-    recipe: &Recipe,
-    rule: &R,
-    watch: &W,
+    rt: &(impl Abort + AllocGlobal),
+    scene: &Scene<R, W>,
     places: (usize, usize),
-    refused: u32,
+    expected: Answer,
     case: &str,
 ) -> Result<(), Fail> {
-    let mut facts = vec![in heap; MARK; places.0]?;
-    let mut edges = vec![in heap; MARK_EDGE; places.1]?;
-    assert_eq!(rt;
-        number(fit(recipe, rule, watch, &facts, &edges)),
-        refused,
-        "{case}"
+    let mut tables = Tables::marked(rt.alloc(), places.0, places.1)?;
+    let fits = fit(
+        scene.recipe,
+        &scene.rule,
+        &scene.watch,
+        &tables.facts,
+        &tables.edges,
     );
-    check_edges(rt, &edges, &[])?;
-    assert_eq!(rt;
-        told(recipe, rule, watch, &mut facts, &mut edges),
-        [refused; 3],
-        "{case}"
-    );
-    if refused == 0 {
-        return check_edges(rt, &edges, recipe_a::parts().edges);
+    assert_eq!(rt; fits, expected, "{case}");
+    check_edges(rt, &tables.edges, &[]);
+    assert_eq!(rt; told(scene, &mut tables), [expected; 3], "{case}");
+    if expected.is_ok() {
+        check_edges(rt, &tables.edges, recipe_a::parts().edges);
+        return Ok(());
     }
-    assert_eq!(rt;
-        number(inquire(recipe, rule, watch, &mut facts, &mut edges, 9)),
-        refused,
-        "{case}"
-    );
-    check_edges(rt, &edges, &[])?;
-    check_rows(rt, &facts, &[]);
-    Ok(())
+    let answer = scene.inquire(&mut tables, 9);
+    assert_eq!(rt; answer.map(|_| ()), expected, "{case}");
+    check_edges(rt, &tables.edges, &[]);
+    check_facts(rt, &tables.facts, &[])
 }
 
 #[test]
 fn tables_that_do_not_fit(rt: HostRuntime) -> Result<(), Fail> {
-    let mut recipe = Recipe::built_in();
-    assert!(rt; read(recipe_a::file(), &mut recipe).is_ok());
-    let watch = TableWatch { recipe: &recipe };
-    for (facts, edges, refused) in TABLES {
+    let recipe = &recipe_of(recipe_a::file())?;
+    let scene = Scene {
+        recipe,
+        rule: Idle { more: 1 },
+        watch: TableWatch { recipe },
+    };
+    for (facts, edges, expected) in TABLES {
         let case = format!(in rt.alloc(); "{facts} fact places, {edges} edge places")?;
-        check_fit(
-            &rt,
-            rt.alloc(),
-            &recipe,
-            &Idle { more: 1 },
-            &watch,
-            (facts, edges),
-            refused,
-            &case,
-        )?;
+        check_fit(&rt, &scene, (facts, edges), expected, &case)?;
     }
     Ok(())
 }
 
 #[test]
 fn counts_that_do_not_fit(rt: HostRuntime) -> Result<(), Fail> {
-    let mut recipe = Recipe::built_in();
-    assert!(rt; read(recipe_a::file(), &mut recipe).is_ok());
-    for (values, states, edges, refused) in COUNTS {
-        let rule = Idle { more: values };
-        let watch = Idle { more: states };
+    let recipe = &recipe_of(recipe_a::file())?;
+    for (values, states, edges, expected) in COUNTS {
+        let scene = Scene {
+            recipe,
+            rule: Idle { more: values },
+            watch: Idle { more: states },
+        };
         let case = format!(in rt.alloc(); "{values} {states} more, {edges} edge places")?;
-        check_fit(
-            &rt,
-            rt.alloc(),
-            &recipe,
-            &rule,
-            &watch,
-            (7, edges),
-            refused,
-            &case,
-        )?;
+        check_fit(&rt, &scene, (7, edges), expected, &case)?;
     }
     Ok(())
 }

@@ -1,45 +1,48 @@
 // What the accessors answer.
-use crate::telling::told;
 use model::Edge;
-use recipe::{Recipe, read};
+use recipe::Recipe;
 use samples::building::Parts;
 use samples::recipe_a;
+use showing::recipe_of;
+use std::fmt::Debug;
 use std::process::Abort;
 use std::test::Fail;
 
-fn check_parts(rt: &impl Abort, a: &Recipe, parts: Parts) -> Result<(), Fail> {
-    for (k, method) in parts.methods.iter().enumerate() {
-        assert_eq!(rt; a.method(u32::try_from(k)?), Some(*method));
+// An accessor answers each of these by its number.
+fn check_each<T: Copy + PartialEq + Debug, F: Fn(u32) -> Option<T>>(
+    rt: &impl Abort,
+    items: &[T],
+    answer: F,
+)
+    requires { F.IsAlwaysCallable answer }
+{
+    for (number, item) in (0..).zip(items) {
+        assert_eq!(rt; answer(number), Some(*item), "number {number}");
     }
-    for (n, node) in parts.nodes.iter().enumerate() {
-        assert_eq!(rt; a.node(u32::try_from(n)?), Some(*node));
+}
+
+// The accessors answer what the file is made of.
+fn check_parts(rt: &impl Abort, a: &Recipe, parts: Parts) {
+    check_each(rt, parts.methods, |k| a.method(k));
+    check_each(rt, parts.nodes, |n| a.node(n));
+    check_each(rt, parts.edges, |i| a.edge(i));
+    for (row, cells) in (0..).zip(parts.rows) {
+        check_each(rt, &cells.map(u32::from), |mark| a.cell(row, mark));
     }
-    for (i, edge) in parts.edges.iter().enumerate() {
-        assert_eq!(rt; a.edge(u32::try_from(i)?), Some(*edge));
-    }
-    for (i, cell) in parts.rows.iter().enumerate() {
-        let i = u32::try_from(i)?;
-        assert_eq!(rt; a.cell(i / 32, i % 32), Some(u32::from(*cell)));
-    }
-    Ok(())
 }
 
 #[test]
 fn accessors_answer_what_the_file_has(rt: HostRuntime) -> Result<(), Fail> {
-    let mut a = Recipe::built_in();
-    told(read(recipe_a::file(), &mut a))?;
+    let a = recipe_of(recipe_a::file())?;
     assert_eq!(rt; (a.methods(), a.nodes(), a.edges(), a.rows()), (3, 7, 4, 2));
-    check_parts(&rt, &a, recipe_a::parts())?;
-    for (n, owner) in recipe_a::owners().iter().enumerate() {
-        assert_eq!(rt; a.method_of(u32::try_from(n)?), Some(*owner));
-    }
+    check_parts(&rt, &a, recipe_a::parts());
+    check_each(&rt, recipe_a::owners(), |n| a.method_of(n));
     Ok(())
 }
 
 #[test]
 fn a_number_past_the_end_gets_none(rt: HostRuntime) -> Result<(), Fail> {
-    let mut a = Recipe::built_in();
-    told(read(recipe_a::file(), &mut a))?;
+    let a = recipe_of(recipe_a::file())?;
     for (method, node, edge, row, mark) in [
         (3, 7, 4, 2, 32),
         (4, 8, 5, 3, 33),
@@ -55,13 +58,10 @@ fn a_number_past_the_end_gets_none(rt: HostRuntime) -> Result<(), Fail> {
     Ok(())
 }
 
+// Each pair is an edge by the rules, or none is.
 fn check_pairs(rt: &impl Abort, a: &Recipe, pairs: &[(u32, u32)], expected: bool) {
-    for (from, to) in pairs {
-        let edge = Edge {
-            from: *from,
-            to: *to,
-        };
-        assert_eq!(rt; a.is_edge(edge), expected, "{from}-{to}");
+    for &(from, to) in pairs {
+        assert_eq!(rt; a.is_edge(Edge { from, to }), expected, "{from}-{to}");
     }
 }
 
@@ -83,8 +83,7 @@ static NO_PAIRS: [(u32, u32); 10] = [
 
 #[test]
 fn an_edge_stays_in_its_method_and_leaves_no_return(rt: HostRuntime) -> Result<(), Fail> {
-    let mut a = Recipe::built_in();
-    told(read(recipe_a::file(), &mut a))?;
+    let a = recipe_of(recipe_a::file())?;
     check_pairs(&rt, &a, &PAIRS, true);
     check_pairs(&rt, &a, &NO_PAIRS, false);
     Ok(())

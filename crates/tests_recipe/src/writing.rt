@@ -1,45 +1,44 @@
 // What write writes, and what it leaves.
-use crate::telling::told;
-use crate::whole::{own_edges, written};
+use crate::whole::written;
 use model::Edge;
-use recipe::Recipe;
+use recipe::Refusal::{self, ShortOutput};
+use recipe::{Recipe, write};
 use samples::building::Parts;
 use samples::recipe_a;
-use std::alloc::Global;
+use showing::{own_edges, recipe_of};
+use std::alloc::{AllocError, Global};
 use std::process::Abort;
 use std::test::Fail;
 
 // An output of sevens, after the file was written into it.
 fn check_room(
-    rt: &impl Abort,
-    heap: Global,
+    rt: &(impl Abort + AllocGlobal),
     recipe: &Recipe,
     room: usize,
-    answer: Result<usize, (u32, usize)>,
+    answer: Result<usize, Refusal>,
     start: &[u8],
 ) -> Result<(), Fail> {
-    let mut out = vec![in heap; 7; room]?;
+    let mut out = vec![in rt.alloc(); 7; room]?;
     assert_eq!(rt;
-        told(recipe::write(recipe, recipe_a::parts().edges, &mut out)),
-        answer
+        write(recipe, recipe_a::parts().edges, &mut out),
+        answer,
+        "{room} bytes"
     );
-    let mut expected = start.to_vec(heap)?;
+    let mut expected = start.to_vec(rt.alloc())?;
     expected.resize(room, 7)?;
-    assert_eq!(rt; out, expected);
+    assert_eq!(rt; out, expected, "{room} bytes");
     Ok(())
 }
 
 // Where there is room the file stands at the start, and else nothing is touched.
 #[test]
 fn the_file_is_written_where_it_fits(rt: HostRuntime) -> Result<(), Fail> {
-    let heap = rt.alloc();
-    let mut a = Recipe::built_in();
-    told(recipe::read(recipe_a::file(), &mut a))?;
+    let a = recipe_of(recipe_a::file())?;
     for room in [0, 1, 163] {
-        check_room(&rt, heap, &a, room, Err((18, 164)), &[])?;
+        check_room(&rt, &a, room, Err(ShortOutput { needed: 164 }), &[])?;
     }
     for room in [164, 165, 170] {
-        check_room(&rt, heap, &a, room, Ok(164), recipe_a::file())?;
+        check_room(&rt, &a, room, Ok(164), recipe_a::file())?;
     }
     Ok(())
 }
@@ -74,74 +73,57 @@ static LISTS: [Case; 8] = [
     (&[(6, 6), (5, 7), (0, 1)], &[(0, 1)]),
 ];
 
-fn edges_of(heap: Global, pairs: &[(u32, u32)]) -> Result<Vec<Edge>, Fail> {
-    let mut edges = Vec::new(heap);
-    for (from, to) in pairs {
-        edges.push(Edge {
-            from: *from,
-            to: *to,
-        })?;
-    }
-    Ok(edges)
+// The edges between pairs of nodes.
+fn edges_of(heap: Global, pairs: &[(u32, u32)]) -> Result<Vec<Edge>, AllocError> {
+    pairs
+        .iter()
+        .map(|&(from, to)| Edge { from, to })
+        .collect(heap)
 }
 
 // The file with the edges of a list has those that count, and reads back with exactly these.
 fn check_list(
-    rt: &impl Abort,
-    heap: Global,
+    rt: &(impl Abort + AllocGlobal),
     recipe: &Recipe,
     list: &[Edge],
     counting: &[Edge],
 ) -> Result<(), Fail> {
     assert_eq!(rt; recipe.count(list), counting.len(), "{list:?}");
-    let file = written(heap, recipe, list)?;
+    let file = written(rt.alloc(), recipe, list)?;
     let parts = Parts {
         edges: counting,
         ..recipe_a::parts()
     };
-    assert_eq!(rt; file.as_slice(), parts.file(heap)?.as_slice(), "{list:?}");
-    let mut again = Recipe::built_in();
-    told(recipe::read(&file, &mut again))?;
-    assert_eq!(rt; own_edges(heap, &again)?.as_slice(), counting, "{list:?}");
+    assert_eq!(rt; file, parts.file(rt.alloc())?, "{list:?}");
+    let again = recipe_of(&file)?;
+    assert_eq!(rt;
+        own_edges(rt.alloc(), &again)?.as_slice(),
+        counting,
+        "{list:?}"
+    );
     Ok(())
 }
 
 #[test]
 fn only_edges_that_count_are_written(rt: HostRuntime) -> Result<(), Fail> {
-    let heap = rt.alloc();
-    let mut a = Recipe::built_in();
-    told(recipe::read(recipe_a::file(), &mut a))?;
-    for (list, counting) in &LISTS {
-        let list = edges_of(heap, list)?;
-        let counting = edges_of(heap, counting)?;
-        check_list(&rt, heap, &a, &list, &counting)?;
+    let a = recipe_of(recipe_a::file())?;
+    for (list, counting) in LISTS {
+        let list = edges_of(rt.alloc(), list)?;
+        let counting = edges_of(rt.alloc(), counting)?;
+        check_list(&rt, &a, &list, &counting)?;
     }
     Ok(())
 }
 
-// The file with a list of so many edges that do not count, and then one that does.
-fn check_long(
-    rt: &impl Abort,
-    heap: Global,
-    recipe: &Recipe,
-    before: usize,
-    counting: &[Edge],
-) -> Result<(), Fail> {
-    let mut list = vec![in heap; Edge { from: 0, to: 4 }; before]?;
-    list.push(Edge { from: 0, to: 1 })?;
-    let parts = Parts {
-        edges: counting,
-        ..recipe_a::parts()
-    };
-    assert_eq!(rt; written(heap, recipe, &list)?, parts.file(heap)?);
-    Ok(())
-}
-
-// Of a long list the first 4,096 places are read.
+// Of a long list the first 4,096 places are read: behind so many edges that do not count, one that does.
 #[test]
 fn no_place_past_the_last_is_read(rt: HostRuntime) -> Result<(), Fail> {
-    let mut a = Recipe::built_in();
-    told(recipe::read(recipe_a::file(), &mut a))?;
-    check_long(&rt, rt.alloc(), &a, 4095, &[Edge { from: 0, to: 1 }])?;
-    check_long(&rt, rt.alloc(), &a, 4096, &[])
+    let a = recipe_of(recipe_a::file())?;
+    let last = Edge { from: 0, to: 1 };
+    for (before, counting) in [(4095, [last].as_slice()), (4096, &[])] {
+        let mut list = vec![in rt.alloc(); Edge { from: 0, to: 4 }; before]?;
+        list.push(last)?;
+        check_list(&rt, &a, &list, counting)?;
+    }
+    Ok(())
 }

@@ -1,10 +1,12 @@
 // Both rules: the formulas, and every question that is not put as it should be.
 use crate::sample::parts;
-use recipe::{Recipe, read};
+use recipe::Recipe;
 use rules::{AccessRule, History, StackInspection};
+use showing::recipe_of;
+use std::process::Abort;
 use std::test::Fail;
 
-// What each question is asked, and what history and stack inspection answer.
+// What each question is asked, and what history and stack inspection answer: side by side, so that it is plain where they differ.
 const ENTERS: [(u32, u32, u32, u32, u32); 9] = [
     (1, 0, 4, 2, 0),
     (3, 0, 4, 2, 2),
@@ -39,30 +41,42 @@ const PASSES: [(u32, u32, bool); 7] = [
     (3, 9, false),
 ];
 
-const FIRSTS: [(u32, u32); 5] = [(0, 3), (1, 0), (4, 0), (7, 0), (4294967295, 0)];
+const FIRSTS: [(u32, u32); 5] = [(0, 3), (1, 0), (4, 0), (7, 0), (u32::MAX, 0)];
+
+// What both rules answer alike.
+fn check_alike<R: AccessRule>(rt: &impl Abort, rule: &R, recipe: &Recipe) {
+    assert_eq!(rt; rule.values(recipe), 65536);
+    for (n, value) in FIRSTS {
+        assert_eq!(rt; rule.first(recipe, n), value, "entry {n}");
+    }
+    for (v, n, passed) in PASSES {
+        assert_eq!(rt; rule.pass(recipe, v, n), passed, "check {n} with {v}");
+    }
+}
 
 #[test]
 fn rules_answer(rt: HostRuntime) -> Result<(), Fail> {
     let file = parts().file(rt.alloc())?;
-    let mut recipe = Recipe::built_in();
-    assert!(rt; read(&file, &mut recipe).is_ok());
-    assert_eq!(rt; History.values(&recipe), 65536);
-    assert_eq!(rt; StackInspection.values(&recipe), 65536);
-    for (n, value) in FIRSTS {
-        assert_eq!(rt; History.first(&recipe, n), value);
-        assert_eq!(rt; StackInspection.first(&recipe, n), value);
-    }
+    let recipe = recipe_of(&file)?;
+    check_alike(&rt, &History, &recipe);
+    check_alike(&rt, &StackInspection, &recipe);
     for (v, n, m, history, stack) in ENTERS {
-        assert_eq!(rt; History.enter(&recipe, v, n, m), history);
-        assert_eq!(rt; StackInspection.enter(&recipe, v, n, m), stack);
-    }
-    for (v, n, passed) in PASSES {
-        assert_eq!(rt; History.pass(&recipe, v, n), passed);
-        assert_eq!(rt; StackInspection.pass(&recipe, v, n), passed);
+        let entered = (
+            History.enter(&recipe, v, n, m),
+            StackInspection.enter(&recipe, v, n, m),
+        );
+        assert_eq!(rt; entered, (history, stack), "call {n} with {v} into {m}");
     }
     for (v, n, u, x, history, stack) in BACKS {
-        assert_eq!(rt; History.back(&recipe, v, n, u, x), history);
-        assert_eq!(rt; StackInspection.back(&recipe, v, n, u, x), stack);
+        let back = (
+            History.back(&recipe, v, n, u, x),
+            StackInspection.back(&recipe, v, n, u, x),
+        );
+        assert_eq!(rt;
+            back,
+            (history, stack),
+            "call {n} with {v} back from {x} with {u}"
+        );
     }
     Ok(())
 }

@@ -1,15 +1,27 @@
 // One generic caller at all four combinations of a rule and a watch.
-use crate::both::begun;
-use recipe::{Recipe, read};
-use rules::{History, StackInspection, TableWatch, WallWatch};
+use recipe::Recipe;
+use rules::{AccessRule, History, StackInspection, TableWatch, WallWatch, Watch};
 use samples::recipe_a;
+use showing::recipe_of;
 use std::test::Fail;
+
+// The value at an entry of main and the state after a first mark.
+fn begun<R: AccessRule, W: Watch>(
+    rule: &R,
+    watch: &W,
+    recipe: &Recipe,
+    entry: u32,
+    mark: u32,
+) -> (u32, u32) {
+    let value = rule.first(recipe, entry);
+    let state = watch.step(watch.start(), mark);
+    (value, state)
+}
 
 #[test]
 fn four_combinations(rt: HostRuntime) -> Result<(), Fail> {
     let file = recipe_a::parts().file(rt.alloc())?;
-    let mut recipe = Recipe::built_in();
-    assert!(rt; read(&file, &mut recipe).is_ok());
+    let recipe = recipe_of(&file)?;
     let table = TableWatch { recipe: &recipe };
     let wall = WallWatch { one: 2, two: 1 };
     assert_eq!(rt; begun(&History, &table, &recipe, 0, 1), (3, 1));

@@ -5,8 +5,6 @@
 #[cfg(test)]
 mod access;
 #[cfg(test)]
-mod both;
-#[cfg(test)]
 mod combined;
 #[cfg(test)]
 mod sample;

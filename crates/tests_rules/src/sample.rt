@@ -67,7 +67,7 @@ static NODES: [Node; 7] = [
 
 static EDGES: [Edge; 1] = [Edge { from: 0, to: 1 }];
 
-// The same with no rows at all.
+// What its file is made of; it has no rows.
 pub fn parts() -> Parts<'static> {
     Parts {
         methods: &METHODS,

@@ -1,8 +1,9 @@
 // Both watches: their steps, the marks at the edge, and the states past the last.
 use crate::sample::parts;
-use recipe::{Recipe, read};
 use rules::{TableWatch, WallWatch, Watch};
 use samples::recipe_a;
+use showing::recipe_of;
+use std::process::Abort;
 use std::test::Fail;
 
 // Steps of the table watch of two rows: state, mark, and where it leads.
@@ -31,30 +32,34 @@ const WALLS: [(u32, u32, u32, u32, u32); 9] = [
     (40, 5, 1, 5, 3),
 ];
 
+// How many states a watch has, where it begins, and which of its states, counted from 0, and of those past them are bad.
+fn check_states<W: Watch>(rt: &impl Abort, watch: &W, states: u32, bad: &[bool]) {
+    assert_eq!(rt; watch.states(), states);
+    assert_eq!(rt; watch.start(), 0);
+    for (state, expected) in (0..).zip(bad) {
+        assert_eq!(rt; watch.bad(state), *expected, "state {state}");
+    }
+}
+
 #[test]
 fn table_steps(rt: HostRuntime) -> Result<(), Fail> {
     let file = recipe_a::parts().file(rt.alloc())?;
-    let mut recipe = Recipe::built_in();
-    assert!(rt; read(&file, &mut recipe).is_ok());
+    let recipe = recipe_of(&file)?;
     let watch = TableWatch { recipe: &recipe };
-    assert_eq!(rt; watch.states(), 3);
-    assert_eq!(rt; watch.start(), 0);
+    check_states(&rt, &watch, 3, &[false, false, true, false]);
     for (state, mark, next) in TABLE {
-        assert_eq!(rt; watch.step(state, mark), next);
+        assert_eq!(rt; watch.step(state, mark), next, "state {state}, mark {mark}");
     }
-    assert!(rt; !watch.bad(0) && !watch.bad(1) && watch.bad(2) && !watch.bad(3));
     Ok(())
 }
 
 #[test]
 fn table_without_rows(rt: HostRuntime) -> Result<(), Fail> {
     let file = parts().file(rt.alloc())?;
-    let mut recipe = Recipe::built_in();
-    assert!(rt; read(&file, &mut recipe).is_ok());
+    let recipe = recipe_of(&file)?;
     let watch = TableWatch { recipe: &recipe };
-    assert_eq!(rt; watch.states(), 1);
+    check_states(&rt, &watch, 1, &[true, false]);
     assert_eq!(rt; watch.step(0, 31), 0);
-    assert!(rt; watch.bad(watch.start()) && !watch.bad(1));
     Ok(())
 }
 
@@ -62,10 +67,13 @@ fn table_without_rows(rt: HostRuntime) -> Result<(), Fail> {
 fn wall_steps(rt: HostRuntime) {
     for (one, two, state, mark, next) in WALLS {
         let watch = WallWatch { one, two };
-        assert_eq!(rt; watch.step(state, mark), next);
+        assert_eq!(rt;
+            watch.step(state, mark),
+            next,
+            "{one} {two}: state {state}, mark {mark}"
+        );
     }
     let watch = WallWatch { one: 1, two: 5 };
-    assert_eq!(rt; watch.states(), 4);
-    assert_eq!(rt; watch.start(), 0);
-    assert!(rt; !watch.bad(0) && !watch.bad(1) && !watch.bad(2) && watch.bad(3) && !watch.bad(7));
+    let bad = [false, false, false, true, false, false, false, false];
+    check_states(&rt, &watch, 4, &bad);
 }

@@ -1,79 +1,90 @@
 // Whole lists: which are runs under which rule, and where the others are refused.
 use model::Frame;
-use recipe::{Recipe, read};
+use recipe::Refusal::{self, NotAStep, StackFull};
 use rules::TableWatch;
 use samples::recipe_a;
+use showing::recipe_of;
 use std::test::Fail;
 use walker::{Stand, replay_history, replay_stack};
 
 const EMPTY: Frame = Frame { node: 9, value: 9 };
 
-// A list of nodes, and what history and stack inspection answer with three places of stack: number and detail, or 0 and the depth.
-const LISTS: [(&[u32], (u32, usize), (u32, usize)); 8] = [
-    (&[0], (0, 1), (0, 1)),
-    (&[0, 3, 1, 4], (0, 2), (0, 2)),
-    (&[0, 3, 1, 4, 5], (16, 4), (0, 2)),
-    (&[0, 3, 1, 4, 5, 6, 2], (16, 4), (0, 1)),
-    (&[0, 3, 1, 4, 5, 6, 2, 2], (16, 4), (16, 7)),
-    (&[3], (16, 0), (16, 0)),
-    (&[0, 1], (16, 1), (16, 1)),
-    (&[], (16, 0), (16, 0)),
+// A list of nodes, and the depth that it comes to under history and under stack inspection with three places of stack, or its refusal.
+type Case = (
+    &'static [u32],
+    Result<usize, Refusal>,
+    Result<usize, Refusal>,
+);
+
+const LISTS: [Case; 8] = [
+    (&[0], Ok(1), Ok(1)),
+    (&[0, 3, 1, 4], Ok(2), Ok(2)),
+    (&[0, 3, 1, 4, 5], Err(NotAStep { place: 4 }), Ok(2)),
+    (&[0, 3, 1, 4, 5, 6, 2], Err(NotAStep { place: 4 }), Ok(1)),
+    (
+        &[0, 3, 1, 4, 5, 6, 2, 2],
+        Err(NotAStep { place: 4 }),
+        Err(NotAStep { place: 7 }),
+    ),
+    (&[3], Err(NotAStep { place: 0 }), Err(NotAStep { place: 0 })),
+    (
+        &[0, 1],
+        Err(NotAStep { place: 1 }),
+        Err(NotAStep { place: 1 }),
+    ),
+    (&[], Err(NotAStep { place: 0 }), Err(NotAStep { place: 0 })),
 ];
 
-fn told(answer: Result<Stand, recipe::Refusal>) -> (u32, usize) {
-    match answer {
-        Ok(at) => (0, at.depth),
-        Err(refusal) => (refusal.number(), refusal.detail()),
-    }
-}
-
 #[test]
-fn lists_are_runs_or_refused(rt: HostRuntime) {
-    let mut recipe = Recipe::built_in();
-    assert!(rt; read(recipe_a::file(), &mut recipe).is_ok());
+fn lists_are_runs_or_refused(rt: HostRuntime) -> Result<(), Fail> {
+    let recipe = recipe_of(recipe_a::file())?;
     let watch = TableWatch { recipe: &recipe };
     let edges = recipe_a::parts().edges;
     for (nodes, history, stack) in LISTS {
         let mut frames = [EMPTY; 3];
-        assert_eq!(rt;
-            told(replay_history(&recipe, edges, &watch, &mut frames, nodes)),
-            history
-        );
+        let answer = replay_history(&recipe, edges, &watch, &mut frames, nodes);
+        assert_eq!(rt; answer.map(|at| at.depth), history, "{nodes:?}");
         let mut frames = [EMPTY; 3];
-        assert_eq!(rt;
-            told(replay_stack(&recipe, edges, &watch, &mut frames, nodes)),
-            stack
-        );
-        assert_eq!(rt; frames[2].node, 9);
+        let answer = replay_stack(&recipe, edges, &watch, &mut frames, nodes);
+        assert_eq!(rt; answer.map(|at| at.depth), stack, "{nodes:?}");
+        assert_eq!(rt; frames[2], EMPTY, "{nodes:?}");
     }
+    Ok(())
 }
 
 #[test]
 fn a_bad_run_and_a_full_stack(rt: HostRuntime) -> Result<(), Fail> {
-    let mut recipe = Recipe::built_in();
-    assert!(rt; read(recipe_a::file(), &mut recipe).is_ok());
+    let recipe = recipe_of(recipe_a::file())?;
     let watch = TableWatch { recipe: &recipe };
     let edges = recipe_a::parts().edges;
-    let mut frames = [EMPTY; 2];
-    let Ok(at) = replay_stack(&recipe, edges, &watch, &mut frames, &[0, 3, 1, 4, 5]) else {
-        return Err(Fail::new("refused"));
+    let mut two = [EMPTY; 2];
+    let bad = Stand {
+        depth: 2,
+        value: 3,
+        state: 2,
+        bad: true,
     };
-    assert_eq!(rt; (at.depth, at.value, at.state), (2, 3, 2));
-    assert!(rt; at.bad);
-    assert_eq!(rt; (frames[0].node, frames[1].node), (1, 5));
+    assert_eq!(rt;
+        replay_stack(&recipe, edges, &watch, &mut two, &[0, 3, 1, 4, 5]),
+        Ok(bad)
+    );
+    assert_eq!(rt;
+        two,
+        [Frame { node: 1, value: 3 }, Frame { node: 5, value: 3 }]
+    );
     let mut one = [EMPTY; 1];
     assert_eq!(rt;
-        told(replay_stack(&recipe, edges, &watch, &mut one, &[0, 3])),
-        (17, 1)
+        replay_stack(&recipe, edges, &watch, &mut one, &[0, 3]),
+        Err(StackFull { place: 1 })
     );
-    assert_eq!(rt; (one[0].node, one[0].value), (0, 3));
+    assert_eq!(rt; one, [Frame { node: 0, value: 3 }]);
     assert_eq!(rt;
-        told(replay_stack(&recipe, edges, &watch, &mut [], &[0])),
-        (17, 0)
+        replay_stack(&recipe, edges, &watch, &mut [], &[0]),
+        Err(StackFull { place: 0 })
     );
     assert_eq!(rt;
-        told(replay_stack(&recipe, edges, &watch, &mut [], &[3])),
-        (16, 0)
+        replay_stack(&recipe, edges, &watch, &mut [], &[3]),
+        Err(NotAStep { place: 0 })
     );
     Ok(())
 }

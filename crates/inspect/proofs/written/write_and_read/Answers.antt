@@ -28,8 +28,5 @@ returns-in_err-read c =
     let z : ◌≡◌ {A = ℕ} 0 1 = cc in
     absurd (omega arith)
 
-pub returns : goal.returns
-returns c = record {
-  read = front _ _ _ _ c.in_ok-bytes.ensures.answer c.write.ensures.output;
-  same = c.write.ensures.same;
-}
+pub returns-clause-read : goal.returns-clause-read
+returns-clause-read c = front _ _ _ _ c.in_ok-bytes.ensures.answer c.write.ensures.output

@@ -1,0 +1,47 @@
+// Phrases that stand in several lines.
+use recipe::Refusal;
+use std::fmt;
+
+// A set of rights, right i counting 2^i: shown as the numbers of its rights, or "none".
+#[derive(Clone, Copy)]
+pub struct Rights(pub u32);
+
+impl fmt::Display for Rights {
+    fn fmt<W: fmt::Write>(&self, f: &mut fmt::Formatter<W>) -> fmt::Result {
+        if self.0 == 0 {
+            return f.write_str("none");
+        }
+        // In a loop over a filter the check loses that the gap is text, so the test stands inside.
+        let mut gap = "";
+        for right in 0..u32::BITS {
+            if (self.0 >> right) & 1 == 1 {
+                write!(f, "{gap}{right}")?;
+                gap = " ";
+            }
+        }
+        Ok(())
+    }
+}
+
+// The same set as a phrase: shown as "rights 0 1", or "no rights".
+#[derive(Clone, Copy)]
+pub struct Held(pub u32);
+
+impl fmt::Display for Held {
+    fn fmt<W: fmt::Write>(&self, f: &mut fmt::Formatter<W>) -> fmt::Result {
+        match self.0 {
+            0 => f.write_str("no rights"),
+            rights => write!(f, "rights {}", Rights(rights)),
+        }
+    }
+}
+
+// A refusal by its number and detail, so that a script can read it. How a refusal is shown differs by program, so the type has no Display of its own.
+#[derive(Clone, Copy)]
+pub struct Refused(pub Refusal);
+
+impl fmt::Display for Refused {
+    fn fmt<W: fmt::Write>(&self, f: &mut fmt::Formatter<W>) -> fmt::Result {
+        write!(f, "refused {} {}", self.0.number(), self.0.detail())
+    }
+}
