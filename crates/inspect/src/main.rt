@@ -1,11 +1,10 @@
 // Reads a recipe file from standard input and says in words what it holds, or why it is refused.
 #![tactic(auto)]
 
-use recipe::Recipe;
-use showing::{Refused, own_edges, recipe_of};
+use recipe::{Edge, Recipe, recipe_of};
+use showing::Refused;
 use std::io::Read;
 
-mod explained;
 mod listing;
 mod phrases;
 mod ruled;
@@ -13,7 +12,6 @@ mod steps;
 mod transitions;
 mod written;
 
-use explained::Explained;
 use listing::list_methods;
 use ruled::{first_entries, list_answers, list_watch};
 use transitions::list_rows;
@@ -35,9 +33,12 @@ fn print_counts(rt: &HostRuntime, recipe: &Recipe, bytes: usize) -> anyhow::Resu
 fn inspect(rt: &HostRuntime, file: &[u8]) -> anyhow::Result<()> {
     let recipe = match recipe_of(file) {
         Ok(recipe) => recipe,
-        Err(refusal) => return Ok(rt.println(Explained(refusal))?),
+        Err(refusal) => {
+            let number = Refused(refusal);
+            return Ok(println!(rt; "{number}: {refusal}")?);
+        }
     };
-    let edges = own_edges(rt.alloc(), &recipe)?;
+    let edges: Vec<Edge> = recipe.own_edges().collect(rt.alloc())?;
     print_counts(rt, &recipe, file.len())?;
     list_methods(rt, &recipe, &edges)?;
     list_rows(rt, &recipe)?;

@@ -5,7 +5,7 @@ ghost use Rattle.judging.specs.Judged.{Answers, Reports, Tells};
 
 use crate::{JudgeError, Judgement};
 use inquiry::{Fact, Report, inquire};
-use recipe::{Edge, Recipe};
+use recipe::{Edge, Recipe, recipe_of};
 use rules::{AccessRule, History, StackInspection, Subject, TableWatch};
 use std::alloc::Global;
 
@@ -37,8 +37,7 @@ pub fn judge(heap: Global, file: &[u8]) -> Result<Judgement, JudgeError>
     ensures answer { Answers file.now result }
     ensures tells { Tells file.now result }
 {
-    let mut recipe = Recipe::built_in();
-    recipe::read(file, &mut recipe)?;
+    let recipe = recipe_of(file)?;
     let history = inquired(heap, &recipe, &History)?;
     let stack = inquired(heap, &recipe, &StackInspection)?;
     Ok(Judgement { history, stack })

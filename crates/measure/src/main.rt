@@ -5,10 +5,9 @@ mod rings;
 
 use anyhow::Context;
 use inquiry::{Fact, Report, inquire};
-use recipe::Edge;
+use recipe::{Edge, recipe_of};
 use rings::Ring;
-use rules::{StackInspection, TableWatch};
-use showing::recipe_of;
+use rules::{StackInspection, Subject, TableWatch};
 use std::env;
 use std::time::{Duration, Instant};
 
@@ -24,22 +23,6 @@ const MOST_EDGES: usize = 4096;
 // What is timed: the nodes of a ring and its entries. Each entry gives 16 facts for each node.
 const TIMED: [(u32, u32); 6] = [(64, 1), (64, 4), (64, 16), (64, 64), (1023, 1), (1023, 4)];
 
-// What stands in the tables at first, since neither type has a Default.
-const NO_FACT: Fact = Fact {
-    entry: 0,
-    brought: 0,
-    seen: 0,
-    node: 0,
-    value: 0,
-    state: 0,
-    rule: 0,
-    source: 0,
-    returned: 0,
-    span: 0,
-};
-
-const NO_EDGE: Edge = Edge { from: 0, to: 0 };
-
 // An inquiry: what it came to, and how long it took.
 #[derive(Drop)]
 struct Timed {
@@ -50,21 +33,18 @@ struct Timed {
 // Searches a ring until no fact is left to work, or no place.
 fn inquired(rt: &HostRuntime, ring: Ring, places: usize) -> anyhow::Result<Timed> {
     let file = ring.file(rt.alloc())?;
-    let recipe = recipe_of(&file).ok().context("this ring is no recipe")?;
-    let watch = TableWatch { recipe: &recipe };
-    let mut facts = vec![in rt.alloc(); NO_FACT; places]?;
-    let mut edges = vec![in rt.alloc(); NO_EDGE; MOST_EDGES]?;
+    let recipe = recipe_of(&file).context("this ring is no recipe")?;
+    let on = Subject {
+        recipe: &recipe,
+        rule: &StackInspection,
+        watch: &TableWatch { recipe: &recipe },
+    };
+    let mut facts = vec![in rt.alloc(); Fact::default(); places]?;
+    let mut edges = vec![in rt.alloc(); Edge::default(); MOST_EDGES]?;
     let begin = Instant::now(rt)?;
-    let answer = inquire(
-        &recipe,
-        &StackInspection,
-        &watch,
-        &mut facts,
-        &mut edges,
-        u32::MAX,
-    );
+    let answer = inquire(&on, &mut facts, &mut edges, u32::MAX);
     let took = begin.elapsed(rt)?;
-    let report = answer.ok().context("the inquiry was refused")?;
+    let report = answer.context("the inquiry was refused")?;
     Ok(Timed { report, took })
 }
 

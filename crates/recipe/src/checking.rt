@@ -108,6 +108,16 @@ impl<'a> Layout<'a> {
         divided.check_edges()?;
         self.check_rows()
     }
+
+    // The recipe of this layout, if each of its records is right.
+    fn checked(self) -> Result<Recipe<'a>, Refusal>
+        ensures answer { result_err result ≡ first_offence (check_tests self.entry.file.now) }
+        ensures filled { IfOk result (λ recipe. recipe.layout.file.now ≡ self.entry.file.now) }
+        ensures legal { Decides (is_ok result) (Legal self.entry.file.now) }
+    {
+        self.check_all()?;
+        Ok(Recipe { layout: self })
+    }
 }
 
 impl Divided<'_, '_> {
@@ -171,18 +181,25 @@ pub fn check<'a>(draft: Draft<'a>, recipe: &mut Recipe<'a>) -> Result<(), Refusa
     ensures filled { MatchResult result (λ _. recipe.new.layout.file.now ≡ draft.entry.layout.file.now) (λ _. recipe.new ≡ recipe.old) }
     ensures legal { Decides (is_ok result) (Legal draft.entry.layout.file.now) }
 {
-    let layout = draft.layout;
-    layout.check_all()?;
-    *recipe = Recipe { layout };
+    *recipe = draft.layout.checked()?;
     Ok(())
 }
 
-// Takes and checks a file: fills the recipe with it exactly if it is legal, else leaves the recipe as it was.
+// The recipe of a file, exactly if the file is legal; else its first offence.
+pub fn recipe_of(file: &[u8]) -> Result<Recipe<'_>, Refusal>
+    ensures answer { result_err result ≡ first_offence (take_tests file.now ++ check_tests file.now) }
+    ensures filled { IfOk result (λ recipe. recipe.layout.file.now ≡ file.now) }
+    ensures legal { Decides (is_ok result) (Legal file.now) }
+{
+    Layout::read(file)?.checked()
+}
+
+// Fills the recipe with a file, exactly if it is legal, else leaves the recipe as it was.
 pub fn read<'a>(file: &'a [u8], recipe: &mut Recipe<'a>) -> Result<(), Refusal>
     ensures answer { result_err result ≡ first_offence (take_tests file.now ++ check_tests file.now) }
     ensures filled { MatchResult result (λ _. recipe.new.layout.file.now ≡ file.now) (λ _. recipe.new ≡ recipe.old) }
     ensures legal { Decides (is_ok result) (Legal file.now) }
 {
-    let layout = Layout::read(file)?;
-    check(Draft { layout }, recipe)
+    *recipe = recipe_of(file)?;
+    Ok(())
 }

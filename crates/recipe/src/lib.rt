@@ -18,7 +18,7 @@ mod taking;
 mod words;
 mod writing;
 
-pub use checking::{check, read};
+pub use checking::{check, read, recipe_of};
 pub use edges::{Counted, OwnEdges};
 pub use grounds::Refusal;
 pub use model::{Edge, Kind, Method, Node};

@@ -1,10 +1,9 @@
 // The facts of recipe A, worked out by hand from the four rules.
-use crate::tables::{Row, Scene, all_worked};
+use crate::tables::{Row, all_worked, check_report, check_rows};
 use inquiry::{Report, Verdict};
-use recipe::Recipe;
-use rules::{AccessRule, History, StackInspection, TableWatch, WallWatch};
+use recipe::{Recipe, recipe_of};
+use rules::{AccessRule, History, StackInspection, Subject, TableWatch, WallWatch};
 use samples::recipe_a;
-use showing::recipe_of;
 use std::process::Abort;
 use std::test::Fail;
 
@@ -40,21 +39,21 @@ pub fn stack_rows() -> &'static [Row] {
 #[test]
 fn both_tables_place_by_place(rt: HostRuntime) -> Result<(), Fail> {
     let recipe = &recipe_of(recipe_a::file())?;
-    let watch = TableWatch { recipe };
-    let history = Scene {
+    let watch = &TableWatch { recipe };
+    let history = Subject {
         recipe,
-        rule: History,
+        rule: &History,
         watch,
     };
     let safe = all_worked(Verdict::Safe, 4);
-    history.check_rows(&rt, 9, safe, history_rows(), "history")?;
-    let stack = Scene {
+    check_rows(&rt, &history, 9, safe, history_rows(), "history")?;
+    let stack = Subject {
         recipe,
-        rule: StackInspection,
+        rule: &StackInspection,
         watch,
     };
     let bad = all_worked(Verdict::Unsafe, 7);
-    stack.check_rows(&rt, 12, bad, stack_rows(), "stack inspection")
+    check_rows(&rt, &stack, 12, bad, stack_rows(), "stack inspection")
 }
 
 // Two marks of a wall, and the verdicts under history and under stack inspection.
@@ -66,30 +65,30 @@ const WALLS: [(u32, u32, Verdict, Verdict); 3] = [
 ];
 
 // What an inquiry with a wall comes to under a rule.
-fn check_wall<R: AccessRule + Drop>(
+fn check_wall<R: AccessRule>(
     rt: &(impl Abort + AllocGlobal),
     recipe: &Recipe,
-    rule: R,
-    watch: WallWatch,
+    rule: &R,
+    watch: &WallWatch,
     expected: Report,
 ) -> Result<(), Fail> {
     let WallWatch { one, two } = watch;
     let case = format!(in rt.alloc(); "the wall of marks {one} and {two}")?;
-    let scene = Scene {
+    let on = Subject {
         recipe,
         rule,
         watch,
     };
-    scene.check_report(rt, expected, &case)
+    check_report(rt, &on, expected, &case)
 }
 
 #[test]
 fn both_rules_with_walls(rt: HostRuntime) -> Result<(), Fail> {
     let recipe = recipe_of(recipe_a::file())?;
     for (one, two, history, stack) in WALLS {
-        let watch = WallWatch { one, two };
-        check_wall(&rt, &recipe, History, watch, all_worked(history, 4))?;
-        check_wall(&rt, &recipe, StackInspection, watch, all_worked(stack, 7))?;
+        let watch = &WallWatch { one, two };
+        check_wall(&rt, &recipe, &History, watch, all_worked(history, 4))?;
+        check_wall(&rt, &recipe, &StackInspection, watch, all_worked(stack, 7))?;
     }
     Ok(())
 }

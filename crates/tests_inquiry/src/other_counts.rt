@@ -5,11 +5,10 @@ use crate::tables::{MARK, MARK_EDGE, all_worked, check_facts};
 use inquiry::{Dug, Inquiry, Verdict};
 use model::Node;
 use recipe::Refusal::{self, OtherCounts, TooMany};
-use recipe::{Edge, Kind, Recipe};
-use rules::{History, TableWatch, WallWatch};
+use recipe::{Edge, Kind, Recipe, recipe_of};
+use rules::{AccessRule, History, Subject, TableWatch, WallWatch, Watch};
 use samples::building::Parts;
 use samples::recipe_a;
-use showing::recipe_of;
 use std::alloc::{AllocError, Global};
 use std::test::Fail;
 
@@ -34,6 +33,22 @@ fn one_node_more(heap: Global) -> Result<Vec<u8>, AllocError> {
     parts.file(heap)
 }
 
+// A dig for up to 9 facts.
+fn dig<R: AccessRule, W: Watch>(
+    inquiry: &mut Inquiry,
+    recipe: &Recipe,
+    rule: &R,
+    watch: &W,
+    edges: &[Edge],
+) -> Result<Dug, Refusal> {
+    let on = Subject {
+        recipe,
+        rule,
+        watch,
+    };
+    inquiry.dig(&on, edges, 9)
+}
+
 // What digs answer that differ from the opening in one count: a node more; a state more; edge places, one less and one more; a value less and one too many; a state too many.
 fn other_digs(
     inquiry: &mut Inquiry,
@@ -45,13 +60,13 @@ fn other_digs(
     let wall = WallWatch { one: 1, two: 2 };
     let longer = [MARK_EDGE; 6];
     [
-        inquiry.dig(other, &History, &watch, edges, 9),
-        inquiry.dig(recipe, &History, &wall, edges, 9),
-        inquiry.dig(recipe, &History, &watch, recipe_a::parts().edges, 9),
-        inquiry.dig(recipe, &History, &watch, &longer, 9),
-        inquiry.dig(recipe, &Idle { more: 0 }, &watch, edges, 9),
-        inquiry.dig(recipe, &Idle { more: 2 }, &watch, edges, 9),
-        inquiry.dig(recipe, &History, &Idle { more: 2 }, edges, 9),
+        dig(inquiry, other, &History, &watch, edges),
+        dig(inquiry, recipe, &History, &wall, edges),
+        dig(inquiry, recipe, &History, &watch, recipe_a::parts().edges),
+        dig(inquiry, recipe, &History, &watch, &longer),
+        dig(inquiry, recipe, &Idle { more: 0 }, &watch, edges),
+        dig(inquiry, recipe, &Idle { more: 2 }, &watch, edges),
+        dig(inquiry, recipe, &History, &Idle { more: 2 }, edges),
     ]
 }
 
@@ -70,13 +85,17 @@ fn other_counts_are_refused(rt: HostRuntime) -> Result<(), Fail> {
     let file = one_node_more(rt.alloc())?;
     let other = recipe_of(&file)?;
     let recipe = &recipe_of(recipe_a::file())?;
-    let watch = TableWatch { recipe };
+    let on = Subject {
+        recipe,
+        rule: &History,
+        watch: &TableWatch { recipe },
+    };
     let mut facts = [MARK; 6];
     let mut edges = [MARK_EDGE; 5];
-    let mut inquiry = Inquiry::open(recipe, &History, &watch, &mut facts, &mut edges);
+    let mut inquiry = Inquiry::open(&on, &mut facts, &mut edges);
     let others = other_digs(&mut inquiry, recipe, &other, &edges);
-    let _ = inquiry.dig(recipe, &History, &watch, &edges, 9);
-    let report = inquiry.close(&watch);
+    let _ = inquiry.dig(&on, &edges, 9);
+    let report = inquiry.close(on.watch);
     assert_eq!(rt; others, TOLD);
     assert_eq!(rt; report, Ok(all_worked(Verdict::Safe, 4)));
     check_facts(&rt, &facts, history_rows())

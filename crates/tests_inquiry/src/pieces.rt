@@ -2,10 +2,9 @@
 use crate::facts_of_a::stack_rows;
 use crate::tables::{MARK, MARK_EDGE, check_facts, first_rows};
 use inquiry::{Dug, Inquiry, Report, Verdict};
-use recipe::Recipe;
-use rules::{StackInspection, TableWatch};
+use recipe::{Recipe, recipe_of};
+use rules::{StackInspection, Subject, TableWatch};
 use samples::recipe_a;
-use showing::recipe_of;
 use std::process::Abort;
 use std::test::Fail;
 
@@ -35,24 +34,28 @@ fn check_pieces(
     pieces: &[u32],
     expected: Report,
 ) -> Result<(), Fail> {
-    let watch = TableWatch { recipe };
+    let on = Subject {
+        recipe,
+        rule: &StackInspection,
+        watch: &TableWatch { recipe },
+    };
     let mut facts = [MARK; 9];
     let mut edges = [MARK_EDGE; 4];
-    let mut inquiry = Inquiry::open(recipe, &StackInspection, &watch, &mut facts, &mut edges);
+    let mut inquiry = Inquiry::open(&on, &mut facts, &mut edges);
     let mut dug = Dug {
         finished: 0,
         held: 1,
     };
     for &allowed in pieces {
-        if let Ok(next) = inquiry.dig(recipe, &StackInspection, &watch, &edges, allowed) {
+        if let Ok(next) = inquiry.dig(&on, &edges, allowed) {
             dug = Dug {
                 finished: dug.finished.saturating_add(next.finished),
                 ..next
             };
         }
     }
-    let verdict = inquiry.verdict(&watch);
-    let report = inquiry.close(&watch);
+    let verdict = inquiry.verdict(on.watch);
+    let report = inquiry.close(on.watch);
     let rows = first_rows(stack_rows(), expected.held)?;
     let told = Dug {
         finished: expected.worked,

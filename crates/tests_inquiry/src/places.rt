@@ -1,10 +1,10 @@
 // Fact tables with fewer places than there are facts.
 use crate::facts_of_a::{history_rows, stack_rows};
-use crate::tables::{Row, Scene};
+use crate::tables::{Row, check_rows};
 use inquiry::{Report, Verdict};
-use rules::{AccessRule, History, StackInspection, TableWatch};
+use recipe::recipe_of;
+use rules::{AccessRule, History, StackInspection, Subject, TableWatch};
 use samples::recipe_a;
-use showing::recipe_of;
 use std::process::Abort;
 use std::test::Fail;
 
@@ -33,19 +33,18 @@ const HISTORY: [Case; 4] = [
 ];
 
 // Recipe A under a rule, in so many places.
-fn check_cases<R: AccessRule + Drop>(
+fn check_cases<R: AccessRule>(
     rt: &(impl Abort + AllocGlobal),
-    rule: R,
+    rule: &R,
     cases: &[Case],
     rows: &[Row],
     name: &str,
 ) -> Result<(), Fail> {
     let recipe = &recipe_of(recipe_a::file())?;
-    let watch = TableWatch { recipe };
-    let scene = Scene {
+    let on = Subject {
         recipe,
         rule,
-        watch,
+        watch: &TableWatch { recipe },
     };
     for &(places, verdict, held, worked) in cases {
         let case = format!(in rt.alloc(); "{places} places under {name}")?;
@@ -54,7 +53,7 @@ fn check_cases<R: AccessRule + Drop>(
             held,
             worked,
         };
-        scene.check_rows(rt, places, expected, rows, &case)?;
+        check_rows(rt, &on, places, expected, rows, &case)?;
     }
     Ok(())
 }
@@ -63,10 +62,10 @@ fn check_cases<R: AccessRule + Drop>(
 fn small_tables_under_both_rules(rt: HostRuntime) -> Result<(), Fail> {
     check_cases(
         &rt,
-        StackInspection,
+        &StackInspection,
         &STACK,
         stack_rows(),
         "stack inspection",
     )?;
-    check_cases(&rt, History, &HISTORY, history_rows(), "history")
+    check_cases(&rt, &History, &HISTORY, history_rows(), "history")
 }

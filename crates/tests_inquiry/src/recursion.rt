@@ -1,11 +1,10 @@
 // Recipes that call themselves, and several entries: the facts were worked out by hand.
-use crate::tables::{Row, Scene, all_worked};
+use crate::tables::{Row, all_worked, check_report, check_rows};
 use inquiry::Verdict;
 use model::{Method, Node};
-use recipe::{Edge, Kind};
-use rules::{History, StackInspection, WallWatch};
+use recipe::{Edge, Kind, recipe_of};
+use rules::{History, StackInspection, Subject, WallWatch};
 use samples::building::{CALL, Parts};
-use showing::recipe_of;
 use std::alloc::{AllocError, Global};
 use std::test::Fail;
 
@@ -124,47 +123,47 @@ fn file(
 fn main_calls_itself(rt: HostRuntime) -> Result<(), Fail> {
     let file = file(rt.alloc(), &SELF_METHODS, &SELF_NODES, &SELF_EDGES)?;
     let recipe = &recipe_of(&file)?;
-    let watch = WallWatch { one: 1, two: 2 };
-    let history = Scene {
+    let watch = &WallWatch { one: 1, two: 2 };
+    let history = Subject {
         recipe,
-        rule: History,
+        rule: &History,
         watch,
     };
     let bad = all_worked(Verdict::Unsafe, 3);
-    history.check_rows(&rt, 5, bad, &SELF_ROWS, "history")?;
-    let stack = Scene {
+    check_rows(&rt, &history, 5, bad, &SELF_ROWS, "history")?;
+    let stack = Subject {
         recipe,
-        rule: StackInspection,
+        rule: &StackInspection,
         watch,
     };
     let bad = all_worked(Verdict::Unsafe, 3);
-    stack.check_rows(&rt, 3, bad, &SELF_ROWS, "stack inspection")
+    check_rows(&rt, &stack, 3, bad, &SELF_ROWS, "stack inspection")
 }
 
 #[test]
 fn entries_and_a_callee_that_calls_itself(rt: HostRuntime) -> Result<(), Fail> {
     let file = file(rt.alloc(), &TWO_METHODS, &TWO_NODES, &TWO_EDGES)?;
     let recipe = &recipe_of(&file)?;
-    let history = Scene {
+    let history = Subject {
         recipe,
-        rule: History,
-        watch: WallWatch { one: 1, two: 2 },
+        rule: &History,
+        watch: &WallWatch { one: 1, two: 2 },
     };
     let bad = all_worked(Verdict::Unsafe, 13);
-    history.check_rows(&rt, 16, bad, &TWO_ROWS, "history")?;
+    check_rows(&rt, &history, 16, bad, &TWO_ROWS, "history")?;
     for (two, verdict) in [(2, Verdict::Unsafe), (7, Verdict::Safe)] {
-        let stack = Scene {
+        let stack = Subject {
             recipe,
-            rule: StackInspection,
-            watch: WallWatch { one: 1, two },
+            rule: &StackInspection,
+            watch: &WallWatch { one: 1, two },
         };
-        stack.check_report(&rt, all_worked(verdict, 15), "stack inspection")?;
+        check_report(&rt, &stack, all_worked(verdict, 15), "stack inspection")?;
     }
-    let other = Scene {
+    let other = Subject {
         recipe,
-        rule: History,
-        watch: WallWatch { one: 1, two: 7 },
+        rule: &History,
+        watch: &WallWatch { one: 1, two: 7 },
     };
     let safe = all_worked(Verdict::Safe, 13);
-    other.check_report(&rt, safe, "history, with another wall")
+    check_report(&rt, &other, safe, "history, with another wall")
 }

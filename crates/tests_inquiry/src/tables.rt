@@ -1,7 +1,7 @@
 // Tables that are marked before an inquiry, and what must stand in them after it.
 use inquiry::{Fact, Report, Verdict, inquire};
-use recipe::{Edge, Recipe, Refusal};
-use rules::{AccessRule, Watch};
+use recipe::Edge;
+use rules::{AccessRule, Subject, Watch};
 use std::alloc::{AllocError, Global};
 use std::fmt::Debug;
 use std::process::Abort;
@@ -94,14 +94,6 @@ pub fn all_worked(verdict: Verdict, facts: u32) -> Report {
     }
 }
 
-// What is inquired into: a recipe under a rule, with a watch.
-#[derive(Drop)]
-pub struct Scene<'r, 'f, R, W> {
-    pub recipe: &'r Recipe<'f>,
-    pub rule: R,
-    pub watch: W,
-}
-
 // The tables of an inquiry.
 #[derive(Drop)]
 pub struct Tables {
@@ -119,54 +111,41 @@ impl Tables {
     }
 }
 
-impl<R: AccessRule, W: Watch> Scene<'_, '_, R, W> {
-    // A whole inquiry in these tables.
-    pub fn inquire(&self, tables: &mut Tables, allowed: u32) -> Result<Report, Refusal> {
-        inquire(
-            self.recipe,
-            &self.rule,
-            &self.watch,
-            &mut tables.facts,
-            &mut tables.edges,
-            allowed,
-        )
-    }
+// What an inquiry reports that has so many fact places, and as many edge places as there are edges; gives back its tables.
+fn reported<R: AccessRule, W: Watch>(
+    rt: &(impl Abort + AllocGlobal),
+    on: &Subject<R, W>,
+    places: usize,
+    expected: Report,
+    case: &str,
+) -> Result<Tables, AllocError> {
+    let mut tables = Tables::marked(rt.alloc(), places, on.recipe.edges() as usize)?;
+    let report = inquire(on, &mut tables.facts, &mut tables.edges, u32::MAX);
+    assert_eq!(rt; report, Ok(expected), "{case}");
+    Ok(tables)
+}
 
-    // What an inquiry reports that has so many fact places, and as many edge places as there are edges; gives back its tables.
-    fn reported(
-        &self,
-        rt: &(impl Abort + AllocGlobal),
-        places: usize,
-        expected: Report,
-        case: &str,
-    ) -> Result<Tables, AllocError> {
-        let mut tables = Tables::marked(rt.alloc(), places, self.recipe.edges() as usize)?;
-        assert_eq!(rt; self.inquire(&mut tables, u32::MAX), Ok(expected), "{case}");
-        Ok(tables)
-    }
+// The report of an inquiry in so many places, and the rows that it finds, of which as many are held as the report says.
+pub fn check_rows<R: AccessRule, W: Watch>(
+    rt: &(impl Abort + AllocGlobal),
+    on: &Subject<R, W>,
+    places: usize,
+    expected: Report,
+    rows: &[Row],
+    case: &str,
+) -> Result<(), Fail> {
+    let rows = first_rows(rows, expected.held)?;
+    let tables = reported(rt, on, places, expected, case)?;
+    check_facts(rt, &tables.facts, rows)
+}
 
-    // The report of an inquiry in so many places, and the rows that it finds, of which as many are held as the report says.
-    pub fn check_rows(
-        &self,
-        rt: &(impl Abort + AllocGlobal),
-        places: usize,
-        expected: Report,
-        rows: &[Row],
-        case: &str,
-    ) -> Result<(), Fail> {
-        let rows = first_rows(rows, expected.held)?;
-        let tables = self.reported(rt, places, expected, case)?;
-        check_facts(rt, &tables.facts, rows)
-    }
-
-    // The report alone, in enough places, where the rows were not worked out.
-    pub fn check_report(
-        &self,
-        rt: &(impl Abort + AllocGlobal),
-        expected: Report,
-        case: &str,
-    ) -> Result<(), Fail> {
-        self.reported(rt, 32, expected, case)?;
-        Ok(())
-    }
+// The report alone, in enough places, where the rows were not worked out.
+pub fn check_report<R: AccessRule, W: Watch>(
+    rt: &(impl Abort + AllocGlobal),
+    on: &Subject<R, W>,
+    expected: Report,
+    case: &str,
+) -> Result<(), Fail> {
+    reported(rt, on, 32, expected, case)?;
+    Ok(())
 }

@@ -1,10 +1,9 @@
 // An edge table that is written to between the opening and a dig: only the places in use are read, and only edges that count lead on.
 use crate::tables::{MARK, MARK_EDGE, all_worked};
 use inquiry::{Inquiry, Report, Verdict};
-use recipe::{Edge, Recipe, Refusal};
-use rules::{StackInspection, TableWatch};
+use recipe::{Edge, Recipe, Refusal, recipe_of};
+use rules::{StackInspection, Subject, TableWatch};
 use samples::recipe_a;
-use showing::recipe_of;
 use std::test::Fail;
 
 // A place of the table and the edge that is put there, the verdict, and how many facts there are.
@@ -24,16 +23,20 @@ const TAMPERED: [(usize, u32, u32, Verdict, u32); 6] = [
 
 // Opens, puts an edge into the table, and digs. The fifth place, which is not in use, has an edge that would count behind 5-4.
 fn dig_tampered(recipe: &Recipe, place: usize, edge: Edge) -> Result<Report, Refusal> {
-    let watch = TableWatch { recipe };
+    let on = Subject {
+        recipe,
+        rule: &StackInspection,
+        watch: &TableWatch { recipe },
+    };
     let mut facts = [MARK; 9];
     let mut edges = [MARK_EDGE; 5];
-    let mut inquiry = Inquiry::open(recipe, &StackInspection, &watch, &mut facts, &mut edges);
+    let mut inquiry = Inquiry::open(&on, &mut facts, &mut edges);
     if let Some(tampered) = edges.get_mut(place) {
         *tampered = edge;
     }
     edges[4] = Edge { from: 5, to: 6 };
-    let _ = inquiry.dig(recipe, &StackInspection, &watch, &edges, 99);
-    inquiry.close(&watch)
+    let _ = inquiry.dig(&on, &edges, 99);
+    inquiry.close(on.watch)
 }
 
 #[test]

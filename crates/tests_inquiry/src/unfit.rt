@@ -1,11 +1,11 @@
 // What does not fit is refused by fit, and by every call of the void inquiry, which writes nothing.
 use crate::idle::Idle;
-use crate::tables::{Scene, Tables, check_edges, check_facts};
-use inquiry::{Inquiry, fit};
+use crate::tables::{Tables, check_edges, check_facts};
+use inquiry::{Inquiry, fit, inquire};
 use recipe::Refusal::{self, TooMany, UnfitTable};
-use rules::{AccessRule, TableWatch, Watch};
+use recipe::recipe_of;
+use rules::{AccessRule, Subject, TableWatch, Watch};
 use samples::recipe_a;
-use showing::recipe_of;
 use std::process::Abort;
 use std::test::Fail;
 
@@ -35,43 +35,32 @@ const COUNTS: [(u16, u16, usize, Answer); 6] = [
 ];
 
 // What a dig, a verdict and the end of an inquiry answer.
-fn told<R: AccessRule, W: Watch>(scene: &Scene<R, W>, tables: &mut Tables) -> [Answer; 3] {
-    let Scene {
-        recipe,
-        rule,
-        watch,
-    } = scene;
-    let mut inquiry = Inquiry::open(recipe, rule, watch, &mut tables.facts, &mut tables.edges);
-    let dug = inquiry.dig(recipe, rule, watch, &tables.edges, 9);
-    let verdict = inquiry.verdict(watch);
-    let closed = inquiry.close(watch);
+fn told<R: AccessRule, W: Watch>(on: &Subject<R, W>, tables: &mut Tables) -> [Answer; 3] {
+    let mut inquiry = Inquiry::open(on, &mut tables.facts, &mut tables.edges);
+    let dug = inquiry.dig(on, &tables.edges, 9);
+    let verdict = inquiry.verdict(on.watch);
+    let closed = inquiry.close(on.watch);
     [dug.map(|_| ()), verdict.map(|_| ()), closed.map(|_| ())]
 }
 
 // Every call answers alike, and a refusal leaves both tables; else the edges are copied.
 fn check_fit<R: AccessRule, W: Watch>(
     rt: &(impl Abort + AllocGlobal),
-    scene: &Scene<R, W>,
+    on: &Subject<R, W>,
     places: (usize, usize),
     expected: Answer,
     case: &str,
 ) -> Result<(), Fail> {
     let mut tables = Tables::marked(rt.alloc(), places.0, places.1)?;
-    let fits = fit(
-        scene.recipe,
-        &scene.rule,
-        &scene.watch,
-        &tables.facts,
-        &tables.edges,
-    );
+    let fits = fit(on, &tables.facts, &tables.edges);
     assert_eq!(rt; fits, expected, "{case}");
     check_edges(rt, &tables.edges, &[]);
-    assert_eq!(rt; told(scene, &mut tables), [expected; 3], "{case}");
+    assert_eq!(rt; told(on, &mut tables), [expected; 3], "{case}");
     if expected.is_ok() {
         check_edges(rt, &tables.edges, recipe_a::parts().edges);
         return Ok(());
     }
-    let answer = scene.inquire(&mut tables, 9);
+    let answer = inquire(on, &mut tables.facts, &mut tables.edges, 9);
     assert_eq!(rt; answer.map(|_| ()), expected, "{case}");
     check_edges(rt, &tables.edges, &[]);
     check_facts(rt, &tables.facts, &[])
@@ -80,14 +69,14 @@ fn check_fit<R: AccessRule, W: Watch>(
 #[test]
 fn tables_that_do_not_fit(rt: HostRuntime) -> Result<(), Fail> {
     let recipe = &recipe_of(recipe_a::file())?;
-    let scene = Scene {
+    let on = Subject {
         recipe,
-        rule: Idle { more: 1 },
-        watch: TableWatch { recipe },
+        rule: &Idle { more: 1 },
+        watch: &TableWatch { recipe },
     };
     for (facts, edges, expected) in TABLES {
         let case = format!(in rt.alloc(); "{facts} fact places, {edges} edge places")?;
-        check_fit(&rt, &scene, (facts, edges), expected, &case)?;
+        check_fit(&rt, &on, (facts, edges), expected, &case)?;
     }
     Ok(())
 }
@@ -96,13 +85,13 @@ fn tables_that_do_not_fit(rt: HostRuntime) -> Result<(), Fail> {
 fn counts_that_do_not_fit(rt: HostRuntime) -> Result<(), Fail> {
     let recipe = &recipe_of(recipe_a::file())?;
     for (values, states, edges, expected) in COUNTS {
-        let scene = Scene {
+        let on = Subject {
             recipe,
-            rule: Idle { more: values },
-            watch: Idle { more: states },
+            rule: &Idle { more: values },
+            watch: &Idle { more: states },
         };
         let case = format!(in rt.alloc(); "{values} {states} more, {edges} edge places")?;
-        check_fit(&rt, &scene, (7, edges), expected, &case)?;
+        check_fit(&rt, &on, (7, edges), expected, &case)?;
     }
     Ok(())
 }

@@ -1,9 +1,8 @@
 // What the accessors answer.
 use model::Edge;
-use recipe::Recipe;
+use recipe::{Recipe, recipe_of};
 use samples::building::Parts;
 use samples::recipe_a;
-use showing::recipe_of;
 use std::fmt::Debug;
 use std::process::Abort;
 use std::test::Fail;

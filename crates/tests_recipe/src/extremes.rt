@@ -1,10 +1,9 @@
 // The smallest and the largest file, and files with no edges or no rows: each is read, and written back byte for byte.
 use crate::whole::{LONGEST, check_written_back};
 use model::{Edge, Kind, Method, Node};
-use recipe::{Draft, Recipe};
+use recipe::{Draft, Recipe, recipe_of};
 use samples::building::Parts;
 use samples::recipe_a;
-use showing::recipe_of;
 use std::alloc::Global;
 use std::process::Abort;
 use std::test::Fail;

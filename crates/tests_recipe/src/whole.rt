@@ -1,7 +1,6 @@
 // The file that a recipe writes.
 use model::Edge;
 use recipe::Recipe;
-use showing::own_edges;
 use std::alloc::Global;
 use std::process::Abort;
 use std::test::Fail;
@@ -23,7 +22,7 @@ pub fn check_written_back(
     recipe: &Recipe,
     file: &[u8],
 ) -> Result<(), Fail> {
-    let edges = own_edges(rt.alloc(), recipe)?;
+    let edges: Vec<Edge> = recipe.own_edges().collect(rt.alloc())?;
     assert_eq!(rt; written(rt.alloc(), recipe, &edges)?.as_slice(), file);
     Ok(())
 }

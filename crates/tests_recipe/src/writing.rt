@@ -2,10 +2,9 @@
 use crate::whole::written;
 use model::Edge;
 use recipe::Refusal::{self, ShortOutput};
-use recipe::{Recipe, write};
+use recipe::{Recipe, recipe_of, write};
 use samples::building::Parts;
 use samples::recipe_a;
-use showing::{own_edges, recipe_of};
 use std::alloc::{AllocError, Global};
 use std::process::Abort;
 use std::test::Fail;
@@ -97,7 +96,10 @@ fn check_list(
     assert_eq!(rt; file, parts.file(rt.alloc())?, "{list:?}");
     let again = recipe_of(&file)?;
     assert_eq!(rt;
-        own_edges(rt.alloc(), &again)?.as_slice(),
+        again
+            .own_edges()
+            .collect::<Vec<Edge>>(rt.alloc())?
+            .as_slice(),
         counting,
         "{list:?}"
     );

@@ -1,8 +1,7 @@
 // Both rules: the formulas, and every question that is not put as it should be.
 use crate::sample::parts;
-use recipe::Recipe;
+use recipe::{Recipe, recipe_of};
 use rules::{AccessRule, History, StackInspection};
-use showing::recipe_of;
 use std::process::Abort;
 use std::test::Fail;
 

@@ -1,8 +1,7 @@
 // One generic caller at all four combinations of a rule and a watch.
-use recipe::Recipe;
+use recipe::{Recipe, recipe_of};
 use rules::{AccessRule, History, StackInspection, TableWatch, WallWatch, Watch};
 use samples::recipe_a;
-use showing::recipe_of;
 use std::test::Fail;
 
 // The value at an entry of main and the state after a first mark.

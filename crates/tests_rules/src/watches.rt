@@ -1,8 +1,8 @@
 // Both watches: their steps, the marks at the edge, and the states past the last.
 use crate::sample::parts;
+use recipe::recipe_of;
 use rules::{TableWatch, WallWatch, Watch};
 use samples::recipe_a;
-use showing::recipe_of;
 use std::process::Abort;
 use std::test::Fail;
 

@@ -1,11 +1,11 @@
 // Whole lists: which are runs under which rule, and where the others are refused.
 use model::Frame;
 use recipe::Refusal::{self, NotAStep, StackFull};
-use rules::TableWatch;
+use recipe::recipe_of;
+use rules::{History, StackInspection, Subject, TableWatch};
 use samples::recipe_a;
-use showing::recipe_of;
 use std::test::Fail;
-use walker::{Stand, replay_history, replay_stack};
+use walker::{Stand, replay_modelled};
 
 const EMPTY: Frame = Frame { node: 9, value: 9 };
 
@@ -37,15 +37,25 @@ const LISTS: [Case; 8] = [
 
 #[test]
 fn lists_are_runs_or_refused(rt: HostRuntime) -> Result<(), Fail> {
-    let recipe = recipe_of(recipe_a::file())?;
-    let watch = TableWatch { recipe: &recipe };
+    let recipe = &recipe_of(recipe_a::file())?;
+    let watch = &TableWatch { recipe };
+    let by_history = Subject {
+        recipe,
+        rule: &History,
+        watch,
+    };
+    let by_stack = Subject {
+        recipe,
+        rule: &StackInspection,
+        watch,
+    };
     let edges = recipe_a::parts().edges;
     for (nodes, history, stack) in LISTS {
         let mut frames = [EMPTY; 3];
-        let answer = replay_history(&recipe, edges, &watch, &mut frames, nodes);
+        let answer = replay_modelled(&by_history, edges, &mut frames, nodes);
         assert_eq!(rt; answer.map(|at| at.depth), history, "{nodes:?}");
         let mut frames = [EMPTY; 3];
-        let answer = replay_stack(&recipe, edges, &watch, &mut frames, nodes);
+        let answer = replay_modelled(&by_stack, edges, &mut frames, nodes);
         assert_eq!(rt; answer.map(|at| at.depth), stack, "{nodes:?}");
         assert_eq!(rt; frames[2], EMPTY, "{nodes:?}");
     }
@@ -54,8 +64,12 @@ fn lists_are_runs_or_refused(rt: HostRuntime) -> Result<(), Fail> {
 
 #[test]
 fn a_bad_run_and_a_full_stack(rt: HostRuntime) -> Result<(), Fail> {
-    let recipe = recipe_of(recipe_a::file())?;
-    let watch = TableWatch { recipe: &recipe };
+    let recipe = &recipe_of(recipe_a::file())?;
+    let on = &Subject {
+        recipe,
+        rule: &StackInspection,
+        watch: &TableWatch { recipe },
+    };
     let edges = recipe_a::parts().edges;
     let mut two = [EMPTY; 2];
     let bad = Stand {
@@ -65,7 +79,7 @@ fn a_bad_run_and_a_full_stack(rt: HostRuntime) -> Result<(), Fail> {
         bad: true,
     };
     assert_eq!(rt;
-        replay_stack(&recipe, edges, &watch, &mut two, &[0, 3, 1, 4, 5]),
+        replay_modelled(on, edges, &mut two, &[0, 3, 1, 4, 5]),
         Ok(bad)
     );
     assert_eq!(rt;
@@ -74,16 +88,16 @@ fn a_bad_run_and_a_full_stack(rt: HostRuntime) -> Result<(), Fail> {
     );
     let mut one = [EMPTY; 1];
     assert_eq!(rt;
-        replay_stack(&recipe, edges, &watch, &mut one, &[0, 3]),
+        replay_modelled(on, edges, &mut one, &[0, 3]),
         Err(StackFull { place: 1 })
     );
     assert_eq!(rt; one, [Frame { node: 0, value: 3 }]);
     assert_eq!(rt;
-        replay_stack(&recipe, edges, &watch, &mut [], &[0]),
+        replay_modelled(on, edges, &mut [], &[0]),
         Err(StackFull { place: 0 })
     );
     assert_eq!(rt;
-        replay_stack(&recipe, edges, &watch, &mut [], &[3]),
+        replay_modelled(on, edges, &mut [], &[3]),
         Err(NotAStep { place: 0 })
     );
     Ok(())

@@ -1,9 +1,9 @@
 // Single steps from stacks that no run has left: they get no step and change nothing.
 use model::Frame;
 use recipe::Refusal::NotAStep;
-use rules::{StackInspection, TableWatch};
+use recipe::recipe_of;
+use rules::{StackInspection, Subject, TableWatch};
 use samples::recipe_a;
-use showing::recipe_of;
 use std::test::Fail;
 use walker::go;
 
@@ -21,22 +21,17 @@ const FORGED: [([(u32, u32); 2], usize, u32); 8] = [
 
 #[test]
 fn forged_stacks_get_no_step(rt: HostRuntime) -> Result<(), Fail> {
-    let recipe = recipe_of(recipe_a::file())?;
-    let watch = TableWatch { recipe: &recipe };
+    let recipe = &recipe_of(recipe_a::file())?;
+    let on = Subject {
+        recipe,
+        rule: &StackInspection,
+        watch: &TableWatch { recipe },
+    };
     let edges = recipe_a::parts().edges;
     for (forged, depth, node) in FORGED {
         let stack = forged.map(|(node, value)| Frame { node, value });
         let mut frames = stack;
-        let answer = go(
-            &recipe,
-            edges,
-            &StackInspection,
-            &watch,
-            &mut frames,
-            depth,
-            0,
-            node,
-        );
+        let answer = go(&on, edges, &mut frames, depth, 0, node);
         assert_eq!(rt; answer, Err(NotAStep { place: 0 }), "{forged:?}");
         assert_eq!(rt; frames, stack, "{forged:?}");
     }

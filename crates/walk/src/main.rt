@@ -2,9 +2,9 @@
 #![tactic(auto)]
 
 use model::Frame;
-use recipe::{Recipe, Refusal};
-use rules::{AccessRule, History, StackInspection, TableWatch};
-use showing::{Held, Refused, own_edges, recipe_of};
+use recipe::{Edge, Recipe, Refusal, recipe_of};
+use rules::{AccessRule, History, StackInspection, Subject, TableWatch};
+use showing::{Held, Refused};
 use std::env;
 use std::io::Read;
 use walker::{Stand, go, start};
@@ -52,19 +52,20 @@ fn follow<R: AccessRule>(
     let Some((first, others)) = nodes.split_first() else {
         return Ok(println!(rt; "refused 16 0: an empty list is no run")?);
     };
-    let edges = own_edges(rt.alloc(), recipe)?;
-    let watch = TableWatch { recipe };
-    let mut stack = vec![in rt.alloc(); Frame { node: 0, value: 0 }; nodes.len()]?;
-    let mut at = match start(recipe, rule, &watch, &mut stack, *first) {
+    let edges: Vec<Edge> = recipe.own_edges().collect(rt.alloc())?;
+    let on = Subject {
+        recipe,
+        rule,
+        watch: &TableWatch { recipe },
+    };
+    let mut stack = vec![in rt.alloc(); Frame::default(); nodes.len()]?;
+    let mut at = match start(&on, &mut stack, *first) {
         Ok(at) => at,
         Err(refusal) => return print_refusal(rt, refusal, 0, *first),
     };
     print_step(rt, recipe, at, *first)?;
     for (place, node) in (1..).zip(others) {
-        let step = go(
-            recipe, &edges, rule, &watch, &mut stack, at.depth, at.state, *node,
-        );
-        at = match step {
+        at = match go(&on, &edges, &mut stack, at.depth, at.state, *node) {
             Ok(next) => next,
             Err(refusal) => return print_refusal(rt, refusal, place, *node),
         };

@@ -10,21 +10,21 @@ use Rattle.judging.proofs.deciding.judge.Goals as goal
 pub returns-in_err-history : goal.returns-in_err-history
 returns-in_err-history c =
     let bs = c.args.file.now in
-    let same : file_of c.read.new.recipe ≡ bs = search rules in
+    let same : file_of c.in_ok-recipe.recipe ≡ bs = search rules in
     let judged : judgement_of bs ≡ Ok (reports_in bs) = search rules in
     let legal : Legal bs = search rules in
     let e = err_from_is_err_and c.from_residual-in_err-history.result c.from_residual-in_err-history.ensures.1 in
-    let fails = fails_so history (λ p. refl) c.read.new.recipe bs same judged legal c.from_residual-in_err-history.result c.in_err-history.field-0.0 (e.1 ∙ ap Err e.2) c.in_err-history.ensures in
+    let fails = fails_so history (λ p. refl) c.in_ok-recipe.recipe bs same judged legal c.from_residual-in_err-history.result c.in_err-history.field-0.0 (e.1 ∙ ap Err e.2) c.in_err-history.ensures in
     record { answer = fails.0; tells = fails.1 }
 
 pub returns-in_err-stack : goal.returns-in_err-stack
 returns-in_err-stack c =
     let bs = c.args.file.now in
-    let same : file_of c.read.new.recipe ≡ bs = search rules in
+    let same : file_of c.in_ok-recipe.recipe ≡ bs = search rules in
     let judged : judgement_of bs ≡ Ok (reports_in bs) = search rules in
     let legal : Legal bs = search rules in
     let e = err_from_is_err_and c.from_residual-in_err-stack.result c.from_residual-in_err-stack.ensures.1 in
-    let fails = fails_so stack_inspection (λ p. refl) c.read.new.recipe bs same judged legal c.from_residual-in_err-stack.result c.in_err-stack.field-0.0 (e.1 ∙ ap Err e.2) c.in_err-stack.ensures in
+    let fails = fails_so stack_inspection (λ p. refl) c.in_ok-recipe.recipe bs same judged legal c.from_residual-in_err-stack.result c.in_err-stack.field-0.0 (e.1 ∙ ap Err e.2) c.in_err-stack.ensures in
     record { answer = fails.0; tells = fails.1 }
 
 pub returns-clause-tells : goal.returns-clause-tells
