@@ -1,12 +1,12 @@
 -- How a table that holds a search grows.
-use Rattle.std.proofs.Common.{◌≡◌, ℕ, zero, suc, ◌+◌, ◌-◌, ◌<◌, ◌≤◌, Bool, true, false, List, [], ◌∷◌, ◌++◌, take, drop, sym, refl, ap, ◌∙◌, subst, ⊎_elim, arith}
+use Rattle.std.proofs.Common.{◌≡◌, ℕ, zero, suc, ◌+◌, ◌-◌, ◌<◌, ◌≤◌, Bool, true, false, List, [], ◌++◌, take, drop, sym, refl, ap, ◌∙◌, ⊎_elim, arith}
 use Rattle.std.proofs.lemmas.List.{drop-drop, take-take, get_or-take}
 use Rattle.std.proofs.lemmas.Bool.{cases_lt, cond-true, cond-false}
 use Rattle.model.specs.declared.Fact.{Fact}
-use Rattle.model.specs.Tables.{Search, row_at, no_fact, offer, offer_all, each_from, joins, backs, return_at, call_at}
+use Rattle.model.specs.Tables.{Search, row_at, no_fact, offer_all, each_from, joins, backs, return_at, call_at}
 use Rattle.model.specs.Facts.{Setting}
 use Rattle.model.proofs.Each.{each_step, each_end, each_skip}
-use Rattle.model.proofs.Held.{offers_nil, offers_cons, offers_append}
+use Rattle.model.proofs.Held.{offers_nil, offers_append}
 use Rattle.inquiry.specs.declared.Inquiry.{Inquiry}
 use Rattle.inquiry.specs.Inquiries.{state_of, Grown}
 
@@ -47,14 +47,7 @@ pub record Going (before after : Inquiry) (all left : List Fact) : Type 0 where
 pub going_start : (t : Inquiry) (all : List Fact) → Going t t all all
 going_start t all = record { rest = refl; grown = grown_same t }
 
--- one row was offered, or several
-pub going_one : {before t u : Inquiry} {all : List Fact} (f : Fact) (left : List Fact) → Going before t all (f ∷ left) → state_of u ≡ offer t.places (state_of t) f → Grown t u → Going before u all left
-going_one {before} {t} {u} {all} f left g e h =
-    record {
-      rest = ap (λ n. offer_all n (state_of u) left) h.places ∙ ap (λ s. offer_all t.places s left) e ∙ sym (offers_cons t.places (state_of t) f left) ∙ g.rest;
-      grown = grown_again g.grown h;
-    }
-
+-- several rows were offered
 pub going_some : {before t u : Inquiry} {all : List Fact} (fs left : List Fact) → Going before t all (fs ++ left) → state_of u ≡ offer_all t.places (state_of t) fs → Grown t u → Going before u all left
 going_some {before} {t} {u} {all} fs left g e h =
     record {
@@ -69,14 +62,6 @@ going_on {before} {t} {all} e g = record { rest = ap (offer_all t.places (state_
 -- nothing is left
 pub going_end : {before t : Inquiry} {all : List Fact} → Going before t all [] → state_of t ≡ offer_all before.places (state_of before) all
 going_end {before} {t} g = sym (offers_nil t.places (state_of t)) ∙ g.rest
-
--- the table, written in another way
-pub going_at : {before t u : Inquiry} {all left : List Fact} → u ≡ t → Going before t all left → Going before u all left
-going_at {before} {t} {u} {all} {left} e g = subst (λ x. Going before x all left) (sym e) g
-
--- the first number of a range: one row stands there, or none does
-pub each_one : (i n : ℕ) (f : ℕ → List Fact) (x : Fact) → i < n → f i ≡ x ∷ [] → each_from i n f ≡ x ∷ each_from (i + 1) n f
-each_one i n f x lt e = each_step i n f lt ∙ ap (λ xs. xs ++ each_from (i + 1) n f) e
 
 -- a range up to its first number at which something stands, and one at which nothing does
 pub each_first : (i j n : ℕ) (f : ℕ → List Fact) → i ≤ j → j < n → ((k : ℕ) → i ≤ k → k < j → f k ≡ []) → each_from i n f ≡ f j ++ each_from (j + 1) n f

@@ -1,7 +1,6 @@
 -- Steps of a look through the rows of a table, and through the edges.
-use Rattle.std.proofs.Common.{◌≡◌, ℕ, ◌+◌, ◌<◌, ◌≤◌, Bool, true, false, ◌||◌, List, [], ◌∷◌, length, Some, None, Option, is_some, IfSome, MatchOption, slice_index_or, sym, refl, ap, ◌∙◌, ⊎_elim, arith}
+use Rattle.std.proofs.Common.{◌≡◌, ℕ, ◌<◌, ◌≤◌, true, false, ◌||◌, List, [], ◌∷◌, length, Some, None, Option, is_some, IfSome, MatchOption, slice_index_or, sym, refl, ap, ◌∙◌, arith}
 use Rattle.std.specs.List.{list_any, AllWithin, HoldsAt}
-use Rattle.std.proofs.lemmas.Bool.{cases_lt}
 use Rattle.std.proofs.lemmas.List.Elements.{All-from_all_within}
 use Rattle.std.proofs.lemmas.List.Folds.{list_any_none, list_any_at}
 use Rattle.model.specs.declared.Edge.{Edge}
@@ -9,10 +8,6 @@ use Rattle.model.specs.declared.Fact.{Fact}
 use Rattle.model.specs.Tables.{no_fact, same_fact, is_held, targets, any_bad}
 use Rattle.model.specs.Watches.{Watch}
 use Rattle.inquiry.specs.declared.Inquiry.{Inquiry}
-
--- a test that fails at each number of a range, and at the next one, fails at each of one more
-pub none_more : (test : ℕ → Bool) (from j : ℕ) → ((k : ℕ) → from ≤ k → k < j → test k ≡ false) → test j ≡ false → (k : ℕ) → from ≤ k → k < j + 1 → test k ≡ false
-none_more test from j before here k low high = ⊎_elim (λ lt. before k low lt) (λ ge. let e : k ≡ j = omega arith in ap test e ∙ here) (cases_lt k j)
 
 -- the rows have their places in the table
 pub rows_fit : (t : Inquiry) → t.held ≤ length t.facts.now

@@ -4,7 +4,6 @@ use Rattle.std.proofs.lemmas.List.{take_at, take-append-drop, length-append, len
 use Rattle.std.proofs.lemmas.Bool.{and_parts, and_from, leb-true, eq-eqb, cond-true}
 use Rattle.model.specs.declared.Edge.{Edge}
 use Rattle.model.specs.declared.Fact.{Fact}
-use Rattle.model.specs.declared.Verdict.{Verdict}
 use Rattle.model.specs.Access.{Rule}
 use Rattle.model.specs.Facts.{Setting}
 use Rattle.model.specs.Program.{Program}

@@ -1,6 +1,5 @@
 -- Laws of the edges that count: the tests say what the rules say, and what counts of a list is right and rises.
-use Rattle.std.proofs.Common.{◌≡◌, ℕ, zero, suc, ◌+◌, ◌<◌, ◌≤◌, true, false, not, ◌&&◌, eqb, ltb, ◌⊎◌, List, [], ◌∷◌, length, get_or, drop, Some, None, Option, refl, ap, ◌∙◌, inl, inr, arith}
-use Rattle.std.proofs.lemmas.List.{drop_more, drop_all}
+use Rattle.std.proofs.Common.{◌≡◌, ℕ, zero, suc, ◌<◌, ◌≤◌, true, false, not, ◌&&◌, eqb, ltb, ◌⊎◌, List, [], ◌∷◌, length, get_or, Some, None, Option, refl, ap, ◌∙◌, inl, inr, arith}
 use Rattle.std.proofs.lemmas.Bool.{ltb-true, eqb-true, lt-ltb, eq-eqb, not-true, and_parts, and_from, or_cases, or_left, or_right, cond-true, cond-false, cond_both}
 use Rattle.model.specs.declared.Edge.{Edge}
 use Rattle.model.specs.Lawful.{Lawful}
@@ -162,14 +161,3 @@ pub next_none : (p : Program) (last : Option Edge) (edges : List Edge) → lengt
 unfolding counted_after
 next_none p last [] none = refl
 next_none p last (e ∷ es) none = absurd (omega arith)
-
--- a scan of a list from place i on: past an edge that counts, past one that does not, and at the end
-pub scan_yes : (p : Program) (last : Option Edge) (es : List Edge) (i : ℕ) → i < length es → counts p last (get_or es i no_edge) ≡ true → counted_after p last (drop i es) ≡ get_or es i no_edge ∷ counted_after p (Some (get_or es i no_edge)) (drop (i + 1) es)
-scan_yes p last es i lt c = ap (counted_after p last) (drop_more es i no_edge lt) ∙ counted_yes p last (get_or es i no_edge) (drop (i + 1) es) c
-
-pub scan_no : (p : Program) (last : Option Edge) (es : List Edge) (i : ℕ) → i < length es → counts p last (get_or es i no_edge) ≡ false → counted_after p last (drop i es) ≡ counted_after p last (drop (i + 1) es)
-scan_no p last es i lt c = ap (counted_after p last) (drop_more es i no_edge lt) ∙ counted_no p last (get_or es i no_edge) (drop (i + 1) es) c
-
-pub scan_end : (p : Program) (last : Option Edge) (es : List Edge) (i : ℕ) → length es ≤ i → counted_after p last (drop i es) ≡ []
-unfolding counted_after
-scan_end p last es i far = ap (counted_after p last) (drop_all i es far)

@@ -1,29 +1,27 @@
 -- What is read back of a written file: the program and the edges that it was written for, and that it passes every test of take and of check.
 use Rattle.std.proofs.Common.{◌≡◌, ℕ, zero, suc, ◌+◌, ◌-◌, ◌*◌, ◌/◌, ◌%◌, ◌<◌, ◌≤◌, Bool, true, false, ◌&&◌, ◌||◌, eqb, ltb, leb, ◌⊎◌, List, [], ◌∷◌, ◌++◌, length, get_or, Some, None, unwrap_or, sym, refl, ap, ◌∙◌, inl, inr, add-zero, arith, lit<, length-append}
-use lib.Bits.{bit_and, and_le_r}
+use lib.Bits.{bit_and}
 use Rattle.std.specs.List.{flat_map, AllByRecursion as All}
 use Rattle.std.specs.Option.{option_or}
 use Rattle.std.proofs.lemmas.List.FromFn.{fill_by_all}
 use Rattle.std.proofs.lemmas.List.{append-nil, get_or_past}
-use Rattle.std.proofs.ByRecursion.{All-append, All-get_or, All-from_get_or}
 use Rattle.std.proofs.lemmas.Bool.{lt-ltb, le-leb, eq-eqb, and_from, or_left, or_right, cond-true, cases_lt}
-use Rattle.std.proofs.lemmas.Bool.Decides.{nat_tests}
 use Rattle.model.specs.declared.Edge.{Edge}
 use Rattle.model.specs.declared.Kind.{Kind}
 use Rattle.model.specs.declared.Kind.TheVariants.{Nop, Call, Check, Return}
 use Rattle.model.specs.declared.Method.{Method}
 use Rattle.model.specs.declared.Node.{Node}
 use Rattle.model.specs.Lawful.{Lawful, KindRules, CellRules}
-use Rattle.model.specs.Program.{Program, no_method, no_node, no_edge, no_row, method_at, node_at, offset, home, rights_of, is_edge, rises, rises_after}
+use Rattle.model.specs.Program.{Program, no_method, no_node, no_edge, no_row, method_at, node_at, offset, rights_of, is_edge, rises, rises_after}
 use Rattle.model.proofs.Edges.{edge_passes, rise_passes}
 use Rattle.model.proofs.Sums.{offset_step, offset_mono}
 use Rattle.recipe.specs.Bytes.{byte_at, word_at, place_in, count_in, nodes_at, edges_at, rows_at, method_in, edge_in, cell_in, kind_of, with_mark, record_of, record_at, node_in, listed, row_in, program_of, edges_of}
-use Rattle.recipe.specs.Format.{word, method_bytes, kind_number, flags_of, operands, node_bytes, edge_bytes, row_bytes, contents_bytes, bytes_of, Legal}
+use Rattle.recipe.specs.Format.{method_bytes, kind_number, flags_of, operands, node_bytes, edge_bytes, row_bytes, contents_bytes, bytes_of, Legal}
 use Rattle.recipe.specs.Offence.{first_offence, each, between, any_below, take_tests, check_tests, method_test, node_test, entry_test, edge_test, row_test, kind_fits, record_fits, cell_test, edge_before}
 use Rattle.recipe.specs.declared.grounds.Refusal.{Refusal}
 use Rattle.recipe.specs.declared.grounds.Refusal.TheVariants.{BadMethod, BadNode, BadEdge, BadRow}
 use Rattle.recipe.proofs.Firsts.{offence_past, offence_append, each_none}
-use Rattle.recipe.proofs.Layers.{get_d_after, Wide, length_joined, get_or_joined, all_joined, all_below_from, any_below_from}
+use Rattle.recipe.proofs.Layers.{get_d_after, Wide, length_joined, get_or_joined, all_below_from, any_below_from}
 
 -- the widths of the records
 method_wide : (m : Method) → length (method_bytes m) ≡ 4
@@ -402,91 +400,15 @@ check_passes p es law =
     (each_none (row_test bs) BadRow (count_in bs 3) (λ k h. row_passes p es law k (omega (arith, count_rows p es)))))))
 
 pub legal_passes : (bs : List ℕ) → Legal bs → (first_offence (take_tests bs) ≡ None) × (first_offence (check_tests bs) ≡ None)
-legal_passes bs legal = (
+legal_passes file legal = (
   ap (λ xs. first_offence (take_tests xs)) legal.3 ∙ take_passes legal.0 legal.1 legal.2,
   ap (λ xs. first_offence (check_tests xs)) legal.3 ∙ check_passes legal.0 legal.1 legal.2,
 )
 
--- each of these bytes is below 256
-abbrev Small : List ℕ → Type 0
-Small xs = All (λ b. b < 256) xs
-
-two_small : (a b : ℕ) → a < 65536 → b < 65536 → Small (word a ++ word b)
-two_small a b h k = (omega arith, (omega arith, (omega arith, (omega arith, tt))))
-
-flags_small : (entry : Bool) (k : Kind) → flags_of entry k < 256
-flags_small entry Nop = grind (arith, nat_tests)
-flags_small entry (Call callee grant accept privileged) = grind (arith, nat_tests)
-flags_small entry (Check required) = grind (arith, nat_tests)
-flags_small entry Return = grind (arith, nat_tests)
-
-number_small : (k : Kind) → kind_number k < 256
-number_small Nop = lit< tt
-number_small (Call callee grant accept privileged) = lit< tt
-number_small (Check required) = lit< tt
-number_small Return = lit< tt
-
--- what lies within the rights is no greater than they are
-operands_small : (methods rights : ℕ) (k : Kind) → methods ≤ 256 → rights < 65536 → KindRules methods rights k → Small (operands k)
-operands_small methods rights Nop m r h = (lit< tt, two_small 0 0 (lit< tt) (lit< tt))
-operands_small methods rights (Call callee grant accept privileged) m r h =
-    (omega arith, two_small grant accept (omega (arith, and_le_r grant rights)) (omega (arith, and_le_r accept rights)))
-operands_small methods rights (Check required) m r h = (lit< tt, two_small required 0 h (lit< tt))
-operands_small methods rights Return m r h = (lit< tt, two_small 0 0 (lit< tt) (lit< tt))
-
-module _ (p : Program) (es : List Edge) (law : Lawful p es) where
-  -- no method's rights reach 65,536; past the last method there are none
-  pub rights_small : (k : ℕ) → (method_at p k).rights < 65536
-  rights_small k = at (cases_lt k (length p.methods))
-    where
-      at : (k < length p.methods) ⊎ (length p.methods ≤ k) → (method_at p k).rights < 65536
-      at (inl l) = (law.method k l).rights
-      at (inr l) = omega (arith, ap (λ m. m.rights) (get_or_past p.methods k no_method l))
-
-  methods_small : Small (flat_map method_bytes p.methods)
-  methods_small = all_joined method_bytes (λ b. b < 256) no_method p.methods (λ k l.
-      two_small (method_at p k).rights (method_at p k).nodes (rights_small k)
-      (omega (arith, offset_step p.methods k, (sum_passes p es law k l).0, law.few_nodes)))
-
-  nodes_small : Small (flat_map node_bytes p.nodes)
-  nodes_small = all_joined node_bytes (λ b. b < 256) no_node p.nodes (λ n l. (
-    number_small (node_at p n).kind,
-    (
-      omega (arith, (law.node n l).0),
-      (
-        flags_small (node_at p n).entry (node_at p n).kind,
-        operands_small (length p.methods) (rights_of p n) (node_at p n).kind law.few_methods (rights_small (home p.methods n)) (law.node n l).1,
-      ),
-    ),
-  ))
-
-  edges_small : Small (flat_map edge_bytes es)
-  edges_small = all_joined edge_bytes (λ b. b < 256) no_edge es (λ k l.
-      two_small (get_or es k no_edge).from (get_or es k no_edge).to
-      (omega (arith, (law.edge k l).leaves, law.few_nodes)) (omega (arith, (law.edge k l).arrives, law.few_nodes)))
-
-  cell_small : (c : ℕ) → CellRules p c → c < 256
-  cell_small c h = omega (arith, law.few_rows)
-
-  rows_small : Small (flat_map row_bytes p.rows)
-  rows_small = all_joined row_bytes (λ b. b < 256) no_row p.rows (λ r l.
-      All-from_get_or (λ b. b < 256) (get_or p.rows r no_row) 0 (λ c m.
-      cell_small (get_or (get_or p.rows r no_row) c 0) ((law.row r l).cells c (omega (arith, (law.row r l).wide)))))
-
-  contents_small : Small (contents_bytes (length p.methods) (length p.nodes) (length es) (length p.rows))
-  contents_small = omega arith
-
-  all_small : Small (bytes_of p es)
-  unfolding bytes_of
-  all_small =
-      All-append (λ b. b < 256) (contents_bytes (length p.methods) (length p.nodes) (length es) (length p.rows)) (flat_map method_bytes p.methods ++ nodes_part p es) contents_small
-      (All-append (λ b. b < 256) (flat_map method_bytes p.methods) (nodes_part p es) methods_small
-      (All-append (λ b. b < 256) (flat_map node_bytes p.nodes) (edges_part p es) nodes_small
-      (All-append (λ b. b < 256) (flat_map edge_bytes es) (rows_part p es) edges_small rows_small)))
-
-pub bytes_small : (p : Program) (es : List Edge) → Lawful p es → (i : ℕ) → byte_at (bytes_of p es) i < 256
-bytes_small p es law i = at (cases_lt i (length (bytes_of p es)))
+-- no method's rights reach 65,536; past the last method there are none
+pub rights_small : (p : Program) (es : List Edge) → Lawful p es → (k : ℕ) → (method_at p k).rights < 65536
+rights_small p es law k = at (cases_lt k (length p.methods))
   where
-    at : (i < length (bytes_of p es)) ⊎ (length (bytes_of p es) ≤ i) → byte_at (bytes_of p es) i < 256
-    at (inl l) = All-get_or (λ b. b < 256) (bytes_of p es) i 0 l (all_small p es law)
-    at (inr l) = omega (arith, get_or_past (bytes_of p es) i 0 l)
+    at : (k < length p.methods) ⊎ (length p.methods ≤ k) → (method_at p k).rights < 65536
+    at (inl l) = (law.method k l).rights
+    at (inr l) = omega (arith, ap (λ m. m.rights) (get_or_past p.methods k no_method l))

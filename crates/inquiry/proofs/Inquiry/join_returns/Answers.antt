@@ -1,4 +1,4 @@
-use Rattle.std.proofs.Common.{◌+◌, ◌<◌, ◌≤◌, ◌++◌, ap, ◌∙◌, arith}
+use Rattle.std.proofs.Common.{◌+◌, ◌<◌, ◌++◌, ap, ◌∙◌, arith}
 use Rattle.model.specs.Tables.{each_from, return_at, backs, row_at}
 use Rattle.inquiry.specs.Inquiries.{scene_of, state_of}
 use Rattle.inquiry.proofs.Growing.{going_start, going_some, going_on, going_end, each_first, each_none, no_return, a_return}

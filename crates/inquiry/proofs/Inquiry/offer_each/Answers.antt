@@ -1,4 +1,4 @@
-use Rattle.std.proofs.Common.{[], ◌∷◌, subst, sym, ap, ◌∙◌}
+use Rattle.std.proofs.Common.{[], ◌∷◌, subst, sym, ◌∙◌}
 use Rattle.std.specs.Iterator.{Yields}
 use Rattle.model.specs.Tables.{offer, offer_all}
 use Rattle.model.proofs.Held.{offers_nil, offers_cons, offers_append}

@@ -5,7 +5,6 @@ use Rattle.model.proofs.Searching.{opened_sound}
 use Rattle.recipe.specs.Recipes.{own_edges}
 use Rattle.rules.specs.Subjects.{setting_of}
 use Rattle.inquiry.specs.Calls.{fit_answer}
-use Rattle.inquiry.specs.Inquiries.{state_of}
 use Rattle.inquiry.proofs.Answering.{leaves_new}
 use Rattle.inquiry.proofs.Begun.{opened_is}
 use Rattle.inquiry.proofs.Inquiry.open.Goals as goal

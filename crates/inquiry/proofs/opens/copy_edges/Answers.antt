@@ -1,4 +1,4 @@
-use Rattle.std.proofs.Common.{◌≡◌, ◌+◌, ◌<◌, [], ◌∷◌, ◌++◌, length, take, drop, set, sym, ap, ◌∙◌, rules, arith}
+use Rattle.std.proofs.Common.{◌≡◌, ◌+◌, [], ◌∷◌, ◌++◌, take, drop, set, sym, ap, ◌∙◌, rules, arith}
 use Rattle.recipe.specs.Recipes.{own_edges}
 use Rattle.recipe.specs.Sequences.{left_in_file}
 use Rattle.inquiry.proofs.Begun.{next_lt, next_rest, copied_more, copied_all}

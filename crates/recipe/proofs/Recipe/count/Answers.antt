@@ -1,4 +1,4 @@
-use Rattle.std.proofs.Common.{inl, ap, length, rules, arith}
+use Rattle.std.proofs.Common.{inl, ap, length, rules}
 use Rattle.recipe.specs.Recipes.{program}
 use Rattle.recipe.proofs.Sequences.{listed_few}
 use Rattle.recipe.proofs.Recipe.count.Goals as goal

@@ -1,4 +1,4 @@
-use Rattle.std.proofs.Common.{sym, ap, length, arith}
+use Rattle.std.proofs.Common.{ap, length, arith}
 use Rattle.recipe.specs.Recipes.{program}
 use Rattle.recipe.specs.Sequences.{left_in_list}
 use Rattle.recipe.specs.Writing.{listed_edges}

@@ -1,4 +1,4 @@
-use Rattle.std.proofs.Common.{◌∙◌, take, ap, rules}
+use Rattle.std.proofs.Common.{rules}
 use Rattle.std.proofs.lemmas.List.{take_min}
 use Rattle.recipe.proofs.writing.first_places.Goals as goal
 
