@@ -71,10 +71,8 @@ impl Recipe<'_> {
         requires { at + 4 * length (listed_edges (program self.now) edges.now) ≤ length out.old }
         ensures { out.new ≡ take at out.old ++ (flat_map edge_bytes (listed_edges (program self.now) edges.now) ++ drop (at + 4 * length (listed_edges (program self.now) edges.now)) out.old) }
     {
-        let mut place = at;
-        for e in self.counted(edges) {
-            put(out, place, &edge_bytes(e));
-            place += 4;
+        for (i, e) in self.counted(edges).enumerate() {
+            put(out, at + 4 * i, &edge_bytes(e));
         }
     }
 }
