@@ -27,13 +27,13 @@ expects() {
 cp tools/refused/accepted.txt crates/refused/src/lib.rt
 expects 'the program that keeps the rules' 'fn refused::run: proved'
 
-sed 's/Inquiry::open(&recipe,/Inquiry::open(\&draft,/; s/recipe::check(draft, &mut recipe)?;//' tools/refused/accepted.txt >crates/refused/src/lib.rt
+sed 's/recipe: &recipe,/recipe: \&draft,/; s/recipe::check(draft, &mut recipe)?;//' tools/refused/accepted.txt >crates/refused/src/lib.rt
 expects 'opened over a draft' 'error\[mismatched-types\]'
 
-sed 's/    inquiry.close(&watch)/    let report = inquiry.close(\&watch);\n    let _ = inquiry.dig(\&recipe, \&History, \&watch, edges, 1);\n    report/' tools/refused/accepted.txt >crates/refused/src/lib.rt
+sed 's/    inquiry.close(on.watch)/    let report = inquiry.close(on.watch);\n    let _ = inquiry.dig(\&on, edges, 1);\n    report/' tools/refused/accepted.txt >crates/refused/src/lib.rt
 expects 'dug after its close' 'error\[borrow-e0382\]'
 
-sed 's/    inquiry.close(&watch)/    Err(Refusal::TooMany)/' tools/refused/accepted.txt >crates/refused/src/lib.rt
+sed 's/    inquiry.close(on.watch)/    Err(Refusal::TooMany)/' tools/refused/accepted.txt >crates/refused/src/lib.rt
 expects 'never closed' 'error\[linear-value-let-go\]'
 
 exit $failed

@@ -6,7 +6,7 @@ ghost use Rattle.recipe.specs.Recipes.{program};
 use crate::{AccessRule, Watch};
 use recipe::Recipe;
 
-// A recipe, the rule that it is run under and the watch that reads its marks, each lent for as long as its owner likes.
+// A recipe, the rule that it is run under, and the watch that reads its marks.
 #[derive(Drop)]
 pub struct Subject<'s, R, W> {
     pub recipe: &'s Recipe<'s>,

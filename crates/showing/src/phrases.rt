@@ -36,7 +36,7 @@ impl fmt::Display for Held {
     }
 }
 
-// A refusal by its number and detail, so that a script can read it. How a refusal is shown differs by program, so the type has no Display of its own.
+// A refusal by its number and detail, so that a script can read it; shown by itself, a refusal is a sentence.
 #[derive(Clone, Copy)]
 pub struct Refused(pub Refusal);
 
