@@ -26,13 +26,9 @@ impl Iterator for Targets<'_> {
     ghost remaining = { item_count left_targets };
 
     fn next(&mut self) -> Option<u32> {
-        // no `for` over `&mut self.edges`: the proof was not told that the field then holds what the loop leaves
-        while let Some(edge) = self.edges.next() {
-            if edge.from == self.node {
-                return Some(edge.to);
-            }
-        }
-        None
+        let node = self.node;
+        let edge = self.edges.find(|edge| edge.from == node)?;
+        Some(edge.to)
     }
 }
 

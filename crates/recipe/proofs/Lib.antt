@@ -2,6 +2,7 @@ pub mod Chunks
 pub mod Decoding
 pub mod Firsts
 pub mod Layers
+pub mod Passing
 pub mod Pieces
 pub mod Places
 pub mod Puts

@@ -6,6 +6,7 @@ ghost use Rattle.recipe.specs.Sequences.{left_in_file, left_in_list};
 
 use crate::{Recipe, first_places};
 use model::Edge;
+use std::slice;
 
 // The edges of a recipe's file, from a place on.
 #[derive(Drop)]
@@ -35,7 +36,7 @@ impl Iterator for OwnEdges<'_> {
 pub struct Counted<'r> {
     recipe: &'r Recipe<'r>,
     last: Option<Edge>,
-    edges: &'r [Edge],
+    edges: slice::Iter<'r, Edge>,
 }
 
 impl Iterator for Counted<'_> {
@@ -48,14 +49,10 @@ impl Iterator for Counted<'_> {
     ghost remaining = { item_count left_in_list };
 
     fn next(&mut self) -> Option<Edge> {
-        while let Some((edge, others)) = self.edges.split_first() {
-            self.edges = others;
-            if self.recipe.counts(self.last, *edge) {
-                self.last = Some(*edge);
-                return Some(*edge);
-            }
-        }
-        None
+        let (recipe, last) = (self.recipe, self.last);
+        let edge = *self.edges.find(|edge| recipe.counts(last, **edge))?;
+        self.last = Some(edge);
+        Some(edge)
     }
 }
 
@@ -77,7 +74,7 @@ impl Recipe<'_> {
         Counted {
             recipe: self,
             last: None,
-            edges: first_places(edges),
+            edges: first_places(edges).iter(),
         }
     }
 }

@@ -1,5 +1,5 @@
 -- What a subject stands for, together with the edges that it is run along.
-use Rattle.std.specs.Prelude.{ℕ, List}
+use Rattle.std.specs.Prelude.{List}
 use Rattle.model.specs.declared.Edge.{Edge}
 use Rattle.model.specs.Access.{Rule}
 use Rattle.model.specs.Facts.{Setting}

@@ -27,9 +27,11 @@ impl Watch for TableWatch<'_, '_> {
         if state > rows || mark > 31 {
             return 0;
         }
-        // past the last row there is no cell, as where one is undefined
-        let cell = self.recipe.cell(state, mark).unwrap_or(255);
-        if cell == 255 { rows } else { cell }
+        match self.recipe.cell(state, mark) {
+            Some(next) if next != 255 => next,
+            // the cell is undefined, or there is none past the last row
+            _ => rows,
+        }
     }
 
     fn bad(&self, state: u32) -> bool {

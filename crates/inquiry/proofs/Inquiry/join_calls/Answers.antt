@@ -1,11 +1,8 @@
 use Rattle.std.proofs.Common.{◌+◌, ◌<◌, ◌++◌, ap, ◌∙◌, arith}
 use Rattle.model.specs.Tables.{each_from, call_at, backs, row_at}
 use Rattle.inquiry.specs.Inquiries.{scene_of, state_of}
-use Rattle.inquiry.proofs.Growing.{going_start, going_some, going_on, going_end, each_first, each_none, no_call, a_call}
+use Rattle.inquiry.proofs.Growing.{going_some, going_on, going_end, each_first, each_none, no_call, a_call}
 use Rattle.inquiry.proofs.Inquiry.join_calls.Goals as goal
-
-pub loop-at-init : goal.loop-at-init
-loop-at-init g c = going_start c.args.self.now _
 
 pub loop-at-preserved : goal.loop-at-preserved
 loop-at-preserved g c =

@@ -1,5 +1,4 @@
-use Rattle.std.proofs.Common.{[], ◌∷◌, subst, sym, ◌∙◌}
-use Rattle.std.specs.Iterator.{Yields}
+use Rattle.std.proofs.Common.{[], ◌∷◌, sym, ◌∙◌}
 use Rattle.model.specs.Tables.{offer, offer_all}
 use Rattle.model.proofs.Held.{offers_nil, offers_cons, offers_append}
 use Rattle.inquiry.specs.Inquiries.{state_of}
@@ -21,8 +20,3 @@ loop-row-preserved g c =
           ∙ offers_nil b.places (offer b.places (offer_all b.places (state_of b) c.loop-row.yielded) row)),
       grown_again grown c.offer.ensures.grown,
     )
-
-pub returns : goal.returns
-returns g c =
-    let from = subst (λ s. Yields g.I.Iterator.next_gives s c.loop-row.yielded c.loop-row.row-iterator) c.into_iter-row-iterator.ensures.into_iter_gives c.loop-row.yielded_by in
-    record { state = (c.loop-row.yielded, (c.next.new.self, (c.loop-row.row-iterator, from, c.in-None.ensures.steps)), c.loop-row.invariant.0); grown = c.loop-row.invariant.1 }

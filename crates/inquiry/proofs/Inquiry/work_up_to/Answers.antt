@@ -1,17 +1,10 @@
 use Rattle.std.proofs.Common.{◌≡◌, suc, ◌+◌, ◌-◌, ◌<◌, sym, ap, ◌∙◌, arith}
 use Rattle.model.specs.Tables.{dug}
 use Rattle.inquiry.specs.Inquiries.{scene_of, state_of}
-use Rattle.inquiry.proofs.Growing.{grown_same, grown_again}
+use Rattle.inquiry.proofs.Growing.{grown_again}
 use Rattle.inquiry.proofs.Steps.{dug_none, dug_idle, dug_more, idle_full, idle_worked, busy}
 use Rattle.inquiry.proofs.Inquiry.work_up_to.Goals as goal
 use Rattle.inquiry.proofs.Inquiry.work_up_to.Goals.{then-self-via-then-self, then-self-via-else-self+then-self-2}
-
-pub loop-turn-init : goal.loop-turn-init
-loop-turn-init g c =
-    let X = scene_of g.R.AccessRule.meaning g.W.Watch.watching c.args.scene.now in
-    let t = c.args.self.now in
-    let all : c.args.allowed - 0 ≡ c.args.allowed = omega arith in
-    (ap (λ k. dug X t.places k (state_of t)) all, grown_same t)
 
 pub loop-turn-preserved : goal.loop-turn-preserved
 loop-turn-preserved g c =

@@ -4,15 +4,6 @@ use Rattle.recipe.specs.Sequences.{left_in_file}
 use Rattle.inquiry.proofs.Begun.{next_lt, next_rest, copied_more, copied_all}
 use Rattle.inquiry.proofs.opens.copy_edges.Goals as goal
 
-pub loop-place-init : goal.loop-place-init
-loop-place-init c =
-    let own = own_edges c.args.recipe.now in
-    let es = c.args.edges.now in
-    let it = c.into_iter-place-iterator.result in
-    let none : it.count ≡ 0 = search rules in
-    let all : left_in_file it.iter ≡ own = search rules in
-    (omega arith, all ∙ sym (ap (λ k. drop k own) none), sym (ap (λ k. take k own ++ drop k es) none))
-
 pub loop-place-preserved : goal.loop-place-preserved
 loop-place-preserved c =
     let own = own_edges c.args.recipe.now in

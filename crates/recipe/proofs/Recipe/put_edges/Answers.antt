@@ -1,33 +1,17 @@
 use Rattle.std.proofs.Common.{◌≡◌, ◌+◌, ◌*◌, ◌++◌, ◌∷◌, [], length, take, drop, subst, ap, ◌∙◌, rules, arith}
+use Rattle.std.specs.Slice.Iter.{iter_rest}
 use Rattle.recipe.specs.Recipes.{program}
 use Rattle.recipe.specs.Sequences.{left_in_list}
 use Rattle.recipe.specs.Writing.{listed_edges}
-use Rattle.recipe.proofs.Puts.{Sofar, sofar_start, sofar_more, sofar_end}
+use Rattle.recipe.proofs.Puts.{Sofar, sofar_more, sofar_end}
 use Rattle.recipe.proofs.Standing.{counted_small}
 use Rattle.recipe.proofs.Recipe.put_edges.Goals as goal
-
-pub loop-i-init : goal.loop-i-init
-loop-i-init c =
-    let it = c.into_iter-i-iterator.result in
-    let all : left_in_list it.iter ≡ listed_edges (program c.args.self.now) c.args.edges.now = search rules in
-    let none : it.count ≡ 0 = search rules in
-    sofar_start _ c.args.at c.args.out.now (c.args.at + 4 * it.count) (omega arith) (left_in_list it.iter) all
 
 pub edge_bytes-requires : goal.edge_bytes-requires
 edge_bytes-requires c =
     let it = c.loop-i.i-iterator.iter in
     let next : left_in_list it ≡ c.in-Some.e ∷ left_in_list c.next.new.self.iter = search rules in
-    counted_small it.recipe.now it.last it.edges.now c.in-Some.e _ next
-
-pub put-requires : goal.put-requires
-put-requires c =
-    let it = c.loop-i.i-iterator in
-    let next : left_in_list it.iter ≡ c.in-Some.e ∷ left_in_list c.next.new.self.iter = search rules in
-    let here : c.in-Some.i ≡ it.count = search rules in
-    let n = ap length next in
-    let wide = ap length c.edge_bytes.ensures in
-    let room = c.loop-i.invariant.room in
-    omega arith
+    counted_small it.recipe.now it.last (iter_rest it.edges) c.in-Some.e _ next
 
 pub loop-i-preserved : goal.loop-i-preserved
 loop-i-preserved c =

@@ -1,28 +1,29 @@
-use Rattle.std.proofs.Common.{sym, ap, ◌∙◌, rules}
-use Rattle.std.proofs.lemmas.Bool.{ne_eqb}
+use Rattle.std.proofs.Common.{◌≡◌, Some, None, eqb, ap, ◌∙◌, rules, tests}
+use Rattle.std.specs.Iterator.{YieldsFirst}
 use Rattle.model.specs.Tables.{targets}
 use Rattle.model.proofs.Each.{targets_yes, targets_no}
+use Rattle.recipe.specs.declared.edges.Counted.{Counted}
+use Rattle.recipe.specs.Sequences.{left_in_list}
+use Rattle.recipe.proofs.Passing.{passed_over}
 use Rattle.inquiry.proofs.Looking.{targets_none}
 use Rattle.inquiry.proofs.leading.TargetsIterator.next.Goals as goal
 
--- the next edge that counts leaves the node
-pub returns-then-edge-self-clause-steps : goal.returns-then-edge-self-clause-steps
-returns-then-edge-self-clause-steps c =
-    sym c.loop-edge.invariant.1 ∙ ap (λ es. targets es c.loop-edge.self.node) c.in-Some.ensures.steps ∙ targets_yes c.in-Some.edge _ c.loop-edge.self.node c.if-edge-self.true
+-- no edge is left that leaves the node
+pub returns-in_err-edge-clause-steps : goal.returns-in_err-edge-clause-steps
+returns-in_err-edge-clause-steps c =
+    let node = c.args.self.now.node in
+    let left = λ (e : Counted). targets (left_in_list e) node in
+    let found = passed_over (YieldsFirst left_in_list) (λ e. eqb e.from node) left c.args.self.now.edges c.find.new.self None c.in_err-edge.ensures.ran (λ x b q k. search (rules, tests)) (λ s t e step no. ap (λ es. targets es node) step ∙ targets_no e _ node no) in
+    rw c.from_residual.ensures (found.1 ∙ targets_none node found.2.0, targets_none node found.2.1)
 
-pub returns-then-edge-self-clause-goes : goal.returns-then-edge-self-clause-goes
-returns-then-edge-self-clause-goes c = let h = returns-then-edge-self-clause-steps c in search rules
-
--- it leaves another
-pub loop-edge-preserved : goal.loop-edge-preserved
-loop-edge-preserved c = (
-  c.loop-edge.invariant.0,
-  sym (ap (λ es. targets es c.loop-edge.self.node) c.in-Some.ensures.steps ∙ targets_no c.in-Some.edge _ c.loop-edge.self.node (ne_eqb c.in-Some.edge.from c.loop-edge.self.node c.if-edge-self.false))
-      ∙ c.loop-edge.invariant.1,
-)
-
--- there is none
+-- the edges before the one that is found leave other nodes
 pub returns-clause-steps : goal.returns-clause-steps
 returns-clause-steps c =
-    let none = c.in_default.ensures.steps in
-    (sym c.loop-edge.invariant.1 ∙ targets_none c.loop-edge.self.node none.0, targets_none c.loop-edge.self.node none.1)
+    let node = c.args.self.now.node in
+    let left = λ (e : Counted). targets (left_in_list e) node in
+    let found = passed_over (YieldsFirst left_in_list) (λ e. eqb e.from node) left c.args.self.now.edges c.find.new.self (Some c.in_ok-edge.edge) c.in_ok-edge.ensures.ran (λ x b q k. search (rules, tests)) (λ s t e step no. ap (λ es. targets es node) step ∙ targets_no e _ node no) in
+    let same : c.in_ok-edge.edge.from ≡ node = search (rules, tests) in
+    found.1 ∙ ap (λ es. targets es node) found.2 ∙ targets_yes c.in_ok-edge.edge _ node same
+
+pub returns-clause-goes : goal.returns-clause-goes
+returns-clause-goes c = let h = returns-clause-steps c in search rules

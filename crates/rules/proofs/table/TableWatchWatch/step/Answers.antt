@@ -1,47 +1,28 @@
-use Rattle.std.proofs.Common.{◌≡◌, ◌+◌, ◌<◌, ◌≤◌, true, length, unwrap_or, sym, ap, ◌∙◌, arith}
+use Rattle.std.proofs.Common.{Some, None, length, sym, refl, ◌∙◌, arith}
 use Rattle.std.proofs.lemmas.Bool.{cond-true, cond-false, eq-eqb, ne_eqb}
-use Rattle.std.proofs.lemmas.Bool.Decides.{nat_tests}
-use Rattle.model.specs.Watches.{asks_step, leads}
 use Rattle.recipe.specs.Recipes.{program}
-use Rattle.rules.proofs.Lawfulness.{cell_leads, cell_below}
+use Rattle.rules.proofs.Lawfulness.{cell_steps}
 use Rattle.rules.proofs.table.TableWatchWatch.step.Goals as goal
 
-pub returns-then-cell-eq255 : goal.returns-then-cell-eq255
-returns-then-cell-eq255 c =
-    let r = c.args.self.now.recipe.now in
-    let q = c.args.state in
-    let mark = c.args.mark in
-    let rows = (program r).rows in
-    let n = c.rows-rows.ensures in
-    let state : q ≤ length rows = omega arith in
-    let few : mark < 32 = omega arith in
-    let is = c.unwrap_or-cell.ensures ∙ ap (λ o. unwrap_or o 255) c.cell.ensures in
-    let got = ap (leads (length rows)) is in
-    let here : leads (length rows) c.unwrap_or-cell.result ≡ length rows = cond-true _ (length rows) _ (eq-eqb _ 255 c.if-cell-eq255.true) in
-    let asked : asks_step (length rows + 1) q mark ≡ true = grind (arith, nat_tests) in
-    let b = cell_below r q mark state few in
-    record {
-      answer = n ∙ sym here ∙ got ∙ cell_leads r q mark state few ∙ sym (cond-true (asks_step (length rows + 1) q mark) _ 0 asked);
-      below = omega arith;
-      wrong = λ w. grind (arith, nat_tests);
-    }
+-- a cell that is defined
+pub returns-in-Some-clause-answer : goal.returns-in-Some-clause-answer
+returns-in-Some-clause-answer c =
+    let rows = (program c.args.self.now.recipe.now).rows in
+    (cell_steps c.args.self.now.recipe.now c.args.state c.args.mark (omega arith) (omega arith) (Some c.in-Some.next) c.in-Some.next (sym c.cell.ensures ∙ c.in-Some.is) (cond-false _ (length rows) _ (ne_eqb _ 255 c.if-next-ne255.true))).0
 
-pub returns-else-cell-eq255 : goal.returns-else-cell-eq255
-returns-else-cell-eq255 c =
-    let r = c.args.self.now.recipe.now in
-    let q = c.args.state in
-    let mark = c.args.mark in
-    let rows = (program r).rows in
-    let n = c.rows-rows.ensures in
-    let state : q ≤ length rows = omega arith in
-    let few : mark < 32 = omega arith in
-    let is = c.unwrap_or-cell.ensures ∙ ap (λ o. unwrap_or o 255) c.cell.ensures in
-    let got = ap (leads (length rows)) is in
-    let here : leads (length rows) c.unwrap_or-cell.result ≡ c.unwrap_or-cell.result = cond-false _ (length rows) _ (ne_eqb _ 255 c.if-cell-eq255.false) in
-    let asked : asks_step (length rows + 1) q mark ≡ true = grind (arith, nat_tests) in
-    let b = cell_below r q mark state few in
-    record {
-      answer = sym here ∙ got ∙ cell_leads r q mark state few ∙ sym (cond-true (asks_step (length rows + 1) q mark) _ 0 asked);
-      below = omega arith;
-      wrong = λ w. grind (arith, nat_tests);
-    }
+pub returns-in-Some-clause-below : goal.returns-in-Some-clause-below
+returns-in-Some-clause-below c =
+    let rows = (program c.args.self.now.recipe.now).rows in
+    (cell_steps c.args.self.now.recipe.now c.args.state c.args.mark (omega arith) (omega arith) (Some c.in-Some.next) c.in-Some.next (sym c.cell.ensures ∙ c.in-Some.is) (cond-false _ (length rows) _ (ne_eqb _ 255 c.if-next-ne255.true))).1
+
+-- one that is not
+pub returns-in_default-clause-answer : goal.returns-in_default-clause-answer
+returns-in_default-clause-answer c =
+    let rows = (program c.args.self.now.recipe.now).rows in
+    c.rows-rows.ensures ∙ (cell_steps c.args.self.now.recipe.now c.args.state c.args.mark (omega arith) (omega arith) (Some c.in-Some.next) (length rows) (sym c.cell.ensures ∙ c.in-Some.is) (cond-true _ (length rows) _ (eq-eqb _ 255 c.if-next-ne255.false))).0
+
+-- no cell
+pub returns-in_default-2-clause-answer : goal.returns-in_default-2-clause-answer
+returns-in_default-2-clause-answer c =
+    let rows = (program c.args.self.now.recipe.now).rows in
+    c.rows-rows.ensures ∙ (cell_steps c.args.self.now.recipe.now c.args.state c.args.mark (omega arith) (omega arith) None (length rows) (sym c.cell.ensures ∙ c.in_default.is) refl).0
