@@ -41,6 +41,7 @@ pub(crate) struct Opening {
 
 // An open inquiry over a lent table of facts: how many of its places may be used, how many facts are held and worked, and whether a new fact found no place.
 // It must be closed. A void one did not fit at its opening, uses no place, and refuses every call.
+// It is flat, with its counts beside the lent table: the borrow checker covers no struct in a struct that gives a lent slice back.
 pub struct Inquiry<'t> {
     facts: &'t mut [Fact],
     places: usize,

@@ -53,6 +53,9 @@ impl Inquiry<'_> {
         );
     }
 
+    // The two halves of rule 4 are loops of their own: one over both would take the look-up and the order of the pair as closures, and be no plainer.
+    // Each goes on from the place that was found: the table grows meanwhile, so no iterator over it can be held.
+
     // Rule 4 at a call: with each earlier return fact that goes together with it.
     fn join_returns<R: AccessRule, W: Watch>(&mut self, scene: &Scene<R, W>, call: Placed)
         requires { call.at < self.old.held }

@@ -84,7 +84,7 @@ pub struct Point {
 }
 
 // A fact, as it stands in its place of a fact table: a call that began at an entry, with a value and a state of the watch, can be at a node, with a value and a state, every inner call having returned.
-// Which rule gave it, from which facts by place (from 1, and 0 for none), and how many nodes its stretch has.
+// Which rule gave it (1 to 4), from which facts by place (from 1, and 0 for none), and how many nodes its stretch has: all plain numbers, since a table of facts is memory of its lender, ten 32-bit numbers a place.
 #[derive(Clone, Copy, PartialEq, Eq, Default, Debug)]
 pub struct Fact {
     pub entry: u32,

@@ -1,5 +1,5 @@
 // Checks a draft: methods, nodes, methods lacking an entry, edges, rows, in this order.
-// Each stage goes over the numbers of its records: what is read by number and refused by number has no iterator that is plainer.
+// Each stage goes over the numbers of its records, some with a running sum: what is read by number and refused by number has no iterator that is plainer.
 ghost use Rattle.std.specs.Prelude.{◌≡◌, ℕ, suc, ◌+◌, ◌*◌, ◌<◌, ◌≤◌, true, ◌++◌, is_ok, IfOk, Decides, MatchResult};
 ghost use Rattle.std.specs.Result.{result_err};
 ghost use Rattle.recipe.specs.Bytes.{count_in, program_of};
@@ -80,6 +80,7 @@ impl<'a> Layout<'a> {
     {
         let rows = u32::from(self.contents.rows.count);
         (0..32).all(|mark| {
+            // 255 is how a file says that a mark leads nowhere
             let cell = self.cell(row, mark);
             cell < rows || cell == 255
         })

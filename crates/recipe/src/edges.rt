@@ -8,7 +8,7 @@ use crate::{Recipe, first_places};
 use model::Edge;
 use std::slice;
 
-// The edges of a recipe's file, from a place on.
+// The edges of a recipe's file, from a place on; no adapter over a range of places, since `own_edges` could not name the closure in its answer.
 #[derive(Drop)]
 pub struct OwnEdges<'r> {
     recipe: &'r Recipe<'r>,

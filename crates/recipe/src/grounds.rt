@@ -3,7 +3,7 @@
 // Why a call was refused. Its number and its detail are what a user is told.
 #[derive(Clone, Copy, PartialEq, Eq, Debug)]
 pub enum Refusal {
-    // A place in the table of contents, or the file's length, is wrong.
+    // The place at an entry of the table of contents is wrong, counted from 0 as everything in a file is, or the file's length, which counts as entry 4.
     Misplaced { entry: u32 },
     // A count in the table of contents is outside its limits.
     Miscounted { entry: u32 },

@@ -50,7 +50,8 @@ fn follow<R: AccessRule>(
     nodes: &[u32],
 ) -> anyhow::Result<()> {
     let Some((first, others)) = nodes.split_first() else {
-        return Ok(println!(rt; "refused 16 0: an empty list is no run")?);
+        let refused = Refused(Refusal::NotAStep { place: 0 });
+        return Ok(println!(rt; "{refused}: an empty list is no run")?);
     };
     let edges: Vec<Edge> = recipe.own_edges().collect(rt.alloc())?;
     let on = Subject {
@@ -89,6 +90,7 @@ fn walk(rt: &HostRuntime, rule: &str, nodes: &[u32], file: &[u8]) -> anyhow::Res
             return Ok(println!(rt; "{refused}: this is no recipe file")?);
         }
     };
+    // each arm is one generic function at its rule: a `dyn` rule would need the same match
     match rule {
         "history" => follow(rt, &recipe, &History, nodes),
         "stack" => follow(rt, &recipe, &StackInspection, nodes),

@@ -51,7 +51,7 @@ pub fn start<R: AccessRule, W: Watch>(
     Ok(stand(on, 1, on.watch.start(), top))
 }
 
-// Goes on to a node, as the kind of the node where the run stands has it.
+// Goes on to a node, as the kind of the node where the run stands has it. The stack is lent, so how much of it is in use stands beside it.
 pub fn go<R: AccessRule, W: Watch>(
     on: &Subject<R, W>,
     edges: &[Edge],
