@@ -9,8 +9,8 @@ use crate::Inquiry;
 use model::Fact;
 
 // Whether two rows have one fact.
-fn same_fact(a: Fact, b: Fact) -> bool
-    ensures { result ≡ same_fact a b }
+fn same_fact(a: &Fact, b: &Fact) -> bool
+    ensures { result ≡ same_fact a.now b.now }
 {
     a.start() == b.start() && a.end() == b.end()
 }
@@ -23,7 +23,7 @@ impl Inquiry<'_> {
     {
         self.facts[..self.held]
             .iter()
-            .position(|held| same_fact(*held, fact))
+            .position(|held| same_fact(held, &fact))
     }
 
     // Puts a fact behind the last, unless it is held; where there is no place for it the table is full for good.

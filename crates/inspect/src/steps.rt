@@ -31,7 +31,7 @@ impl fmt::Display for Action {
     }
 }
 
-// Where edges lead; nothing, if there are none.
+// Where edges lead; nothing, if there are none. A type of its own, since a slice is the library's.
 #[derive(Drop)]
 struct Targets<'a>(&'a [Edge]);
 

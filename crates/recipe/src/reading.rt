@@ -1,4 +1,5 @@
 // Answers from a recipe's program, by number. A number past the end gets None, or no.
+// Each is an `if` and no `then`: of its closure the proof learns nothing that a method told it.
 ghost use Rattle.std.specs.Prelude.{◌≡◌, ◌<◌, ◌≤◌, length};
 ghost use Rattle.std.specs.List.{slice_get};
 ghost use Rattle.model.specs.Access.{is_entry_of};
@@ -107,7 +108,6 @@ impl Recipe<'_> {
     pub fn method_of(&self, n: u32) -> Option<u32>
         ensures { result ≡ method_of (program self.now) n }
     {
-        // An if and no `then`, of whose closure the proof learns nothing that a method told it.
         if n < self.nodes() {
             Some(self.span_of(n).method as u32)
         } else {

@@ -58,7 +58,7 @@ fn count(len: usize) -> u32 {
 }
 
 impl Parts<'_> {
-    // The table of contents: place and count of each body.
+    // The table of contents: place and count of each body, as the eight numbers that are written one after another.
     fn contents(&self) -> [u32; 8] {
         let methods = count(self.methods.len());
         let nodes = count(self.nodes.len());

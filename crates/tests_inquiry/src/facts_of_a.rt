@@ -64,7 +64,7 @@ const WALLS: [(u32, u32, Verdict, Verdict); 3] = [
     (0, 1, Verdict::Unsafe, Verdict::Unsafe),
 ];
 
-// What an inquiry with a wall comes to under a rule.
+// What an inquiry with a wall comes to under a rule; each case is a subject of its own, made here.
 fn check_wall<R: AccessRule>(
     rt: &(impl Abort + AllocGlobal),
     recipe: &Recipe,

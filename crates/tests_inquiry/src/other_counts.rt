@@ -33,7 +33,7 @@ fn one_node_more(heap: Global) -> Result<Vec<u8>, AllocError> {
     parts.file(heap)
 }
 
-// A dig for up to 9 facts.
+// A dig for up to 9 facts; its subject is made here, since each dig has another.
 fn dig<R: AccessRule, W: Watch>(
     inquiry: &mut Inquiry,
     recipe: &Recipe,

@@ -32,7 +32,7 @@ const HISTORY: [Case; 4] = [
     (5, Verdict::Safe, 4, 4),
 ];
 
-// Recipe A under a rule, in so many places.
+// Recipe A under a rule, in so many places; the subject is made here, since each rule has one.
 fn check_cases<R: AccessRule>(
     rt: &(impl Abort + AllocGlobal),
     rule: &R,

@@ -4,7 +4,7 @@ use rules::{AccessRule, History, StackInspection, TableWatch, WallWatch, Watch};
 use samples::recipe_a;
 use std::test::Fail;
 
-// The value at an entry of main and the state after a first mark.
+// The value at an entry of main and the state after a first mark, asked of the rule and the watch themselves and not of a subject.
 fn begun<R: AccessRule, W: Watch>(
     rule: &R,
     watch: &W,

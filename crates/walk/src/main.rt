@@ -42,7 +42,7 @@ fn print_refusal(
     Ok(())
 }
 
-// Goes along the list, a line for each step, and says how it ended.
+// Goes along the list, a line for each step, and says how it ended; the subject is made here, since each rule has one.
 fn follow<R: AccessRule>(
     rt: &HostRuntime,
     recipe: &Recipe,
