@@ -19,6 +19,7 @@ fn copy_edges(recipe: &Recipe, edges: &mut [Edge])
     requires { length (own_edges recipe.now) ≤ length edges.old }
     ensures { edges.new ≡ own_edges recipe.now ++ drop (length (own_edges recipe.now)) edges.old }
 {
+    // no `iter_mut` zipped with the edges: the proof of what the table then holds did not close
     for (place, edge) in recipe.own_edges().enumerate() {
         edges[place] = edge;
     }

@@ -3,7 +3,7 @@ use recipe::{Edge, Kind, Node};
 use showing::Rights;
 use std::fmt;
 
-// What a node does; a type of its own, since Kind is of another crate.
+// What a node does, in this program's words; a type of its own, since `Kind` stands below the crate that shows rights.
 #[derive(Drop)]
 struct Action(Kind);
 

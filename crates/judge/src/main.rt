@@ -7,6 +7,7 @@ use std::io::Read;
 fn main(rt: HostRuntime) -> anyhow::Result<()> {
     let mut file = Vec::new(rt.alloc());
     rt.stdin().read_to_end(&mut file)?;
+    // users know a refusal by its number
     match judge(rt.alloc(), &file) {
         Err(JudgeError::Refused(refusal)) => rt.println(refusal.number())?,
         judged => rt.println(judged?)?,

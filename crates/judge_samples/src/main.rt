@@ -8,10 +8,11 @@ fn main(rt: HostRuntime) -> anyhow::Result<()> {
     let mut names = env::args(&rt)?;
     let _program = names.next();
     for name in names {
-        rt.println(name.as_str())?;
-        match judge(rt.alloc(), &fs::read(&rt, name.as_str())?) {
-            Err(JudgeError::Refused(refusal)) => rt.println(refusal.number())?,
-            judged => rt.println(judged?)?,
+        let file = fs::read(&rt, name.as_str())?;
+        // users know a refusal by its number
+        match judge(rt.alloc(), &file) {
+            Err(JudgeError::Refused(refusal)) => println!(rt; "{name}\n{}", refusal.number())?,
+            judged => println!(rt; "{name}\n{}", judged?)?,
         }
     }
     Ok(())

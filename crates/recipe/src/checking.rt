@@ -153,7 +153,7 @@ impl Divided<'_, '_> {
         Ok(())
     }
 
-    // Each edge is one by the rules, and rises above the one before it.
+    // Each edge is one by the rules, and rises above the one before it: what `counted` passes over is refused here.
     fn check_edges(self) -> Result<(), Refusal>
         ensures { result_err result ≡ first_offence (each (count_in self.entry.layout.now.file.now 2) (edge_test self.entry.layout.now.file.now) BadEdge) }
     {

@@ -1,5 +1,5 @@
 // Answers from a recipe's program, by number. A number past the end gets None, or no.
-// Each is an `if` and no `then`: of its closure the proof learns nothing that a method told it.
+// Each is an `if` and no `then`, in whose closure it is not known that the number is below the count.
 ghost use Rattle.std.specs.Prelude.{◌≡◌, ◌<◌, ◌≤◌, length};
 ghost use Rattle.std.specs.List.{slice_get};
 ghost use Rattle.model.specs.Access.{is_entry_of};
@@ -17,28 +17,28 @@ impl Recipe<'_> {
     pub fn methods(&self) -> u32
         ensures { result ≡ length (program self.now).methods }
     {
-        self.layout.contents.methods.count as u32
+        self.layout.contents.methods.count.into()
     }
 
     // How many nodes there are.
     pub fn nodes(&self) -> u32
         ensures { result ≡ length (program self.now).nodes }
     {
-        self.layout.contents.nodes.count as u32
+        self.layout.contents.nodes.count.into()
     }
 
     // How many edges the file has.
     pub fn edges(&self) -> u32
         ensures { result ≡ length (own_edges self.now) }
     {
-        self.layout.contents.edges.count as u32
+        self.layout.contents.edges.count.into()
     }
 
     // How many rows there are.
     pub fn rows(&self) -> u32
         ensures { result ≡ length (program self.now).rows }
     {
-        self.layout.contents.rows.count as u32
+        self.layout.contents.rows.count.into()
     }
 
     pub fn method(&self, k: u32) -> Option<Method>

@@ -96,6 +96,7 @@ pub fn write(recipe: &Recipe, edges: &[Edge], out: &mut [u8]) -> Result<usize, R
 {
     let many = recipe.count(edges);
     let layout = &recipe.layout;
+    // `as` and no `from`: the proof did not close with a call between the places and what they are
     let edges_at = layout.contents.edges.place as usize;
     let rows_at = layout.contents.rows.place as usize;
     let rows_to = edges_at + 4 * many;

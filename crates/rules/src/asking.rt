@@ -48,7 +48,7 @@ pub(crate) fn own_rights(recipe: &Recipe, n: u32) -> u32
     ensures answer { result ≡ rights_of (program recipe.now) n }
     ensures below { result < 65536 }
 {
-    // no map_or: what a closure says of the call in it did not reach the proof
+    // no `map_or`: the proof did not close, which did not find what the closure says of the call in it
     match recipe.method_of(n) {
         Some(home) => rights(recipe, home),
         None => 0,

@@ -29,7 +29,7 @@ impl Watch for TableWatch<'_, '_> {
         }
         match self.recipe.cell(state, mark) {
             Some(next) if next != 255 => next,
-            // the cell is undefined, or there is none past the last row
+            // the cell is undefined, for which a file has 255, or there is none past the last row
             _ => rows,
         }
     }

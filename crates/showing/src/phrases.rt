@@ -2,7 +2,7 @@
 use recipe::Refusal;
 use std::fmt;
 
-// A set of rights, right i counting 2^i: shown as the numbers of its rights, or "none".
+// A set of rights, right i counting 2^i, which is a number everywhere else, so that only a type of its own can be shown so: the numbers of its rights, or "none".
 #[derive(Clone, Copy)]
 pub struct Rights(pub u32);
 
@@ -23,7 +23,7 @@ impl fmt::Display for Rights {
     }
 }
 
-// The same set as a phrase: shown as "rights 0 1", or "no rights".
+// The same set as a phrase, and so another type: shown as "rights 0 1", or "no rights".
 #[derive(Clone, Copy)]
 pub struct Held(pub u32);
 

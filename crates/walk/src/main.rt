@@ -28,7 +28,7 @@ fn print_step(rt: &HostRuntime, recipe: &Recipe, at: Stand, node: u32) -> anyhow
     Ok(())
 }
 
-// That the node at a place of the list is refused, as a line.
+// That the node at a place of the list is refused, as a line: users know a refusal by its number.
 fn print_refusal(
     rt: &HostRuntime,
     refusal: Refusal,

@@ -1,5 +1,5 @@
 -- Steps of a replay: a node more, the end, a refusal, and the first node.
-use Rattle.std.proofs.Common.{◌≡◌, ℕ, ◌+◌, ◌<◌, ◌≤◌, Bool, true, false, cond, leb, List, [], ◌∷◌, length, get_or, drop, Some, None, Ok, Err, Option, Result, refl, ap, arith}
+use Rattle.std.proofs.Common.{◌≡◌, ℕ, ◌+◌, ◌<◌, ◌≤◌, Bool, true, false, cond, leb, List, [], ◌∷◌, length, get_or, drop, Some, None, Ok, Err, Option, Result, MatchResult, IsErrAnd, sym, refl, ap, subst, ◌∙◌, arith}
 use Rattle.std.proofs.lemmas.List.{drop_more, drop_all}
 use Rattle.model.specs.declared.Edge.{Edge}
 use Rattle.model.specs.declared.Frame.{Frame}
@@ -50,3 +50,14 @@ module _ (p : Program) (W : Watch) (room state m i : ℕ) where
           → cond b (Ok (stand_at W f.0 f.1 (W.step state (reads p m)))) (Err (StackFull i)) ≡ Ok s
       by true h = h
       by false h = let z : ◌≡◌ {A = ℕ} 0 1 = cc in absurd (omega arith)
+
+-- what map_err made an answer of: of a stand the same, of a refusal what the function made of it
+pub mapped_ok : (r m : Result Stand Refusal) (at : Stand) (Made : Refusal → Refusal → Type 0) → MatchResult r (λ x. m ≡ Ok x) (λ e. IsErrAnd m (Made e)) → m ≡ Ok at → r ≡ Ok at
+mapped_ok (Ok x) m at Made h same = sym h ∙ same
+mapped_ok (Err e) (Ok x) at Made h same = absurd h
+mapped_ok (Err e) (Err d) at Made h same = let z : ◌≡◌ {A = ℕ} 0 1 = cc in absurd (omega arith)
+
+pub mapped_err : (r m : Result Stand Refusal) (d : Refusal) (Made : Refusal → Refusal → Type 0) → MatchResult r (λ x. m ≡ Ok x) (λ e. IsErrAnd m (Made e)) → m ≡ Err d → (e : Refusal) × (r ≡ Err e) × Made e d
+mapped_err (Ok x) m d Made h same = let bad : Ok x ≡ Err d = sym h ∙ same in let z : ◌≡◌ {A = ℕ} 0 1 = cc in absurd (omega arith)
+mapped_err (Err e) (Ok x) d Made h same = absurd h
+mapped_err (Err e) (Err f) d Made h same = (e, refl, let alike : f ≡ d = cc in subst (Made e) alike h)

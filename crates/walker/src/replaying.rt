@@ -36,10 +36,7 @@ fn walk_along<R: AccessRule, W: Watch>(
     };
     let mut at = start(on, stack, *first)?;
     for (i, node) in others.iter().enumerate() {
-        match go(on, edges, stack, at.depth, at.state, *node) {
-            Ok(next) => at = next,
-            Err(refusal) => return Err(placed(refusal, i + 1)),
-        }
+        at = go(on, edges, stack, at.depth, at.state, *node).map_err(|e| placed(e, i + 1))?;
     }
     Ok(at)
 }

@@ -1,5 +1,6 @@
+use Rattle.std.proofs.Common.{◌∙◌}
 use Rattle.recipe.proofs.Standing.{methods_count}
 use Rattle.recipe.proofs.Recipe.methods.Goals as goal
 
 pub returns : goal.returns
-returns c = methods_count c.args.self.now
+returns c = c.into.ensures ∙ methods_count c.args.self.now
