@@ -4,7 +4,10 @@ pub mod Each
 pub mod Edges
 pub mod Grounded
 pub mod Held
+pub mod Linking
+pub mod Links
 pub mod Offered
+pub mod Pigeons
 pub mod RightSets
 pub mod Searching
 pub mod Standing
@@ -12,5 +15,6 @@ pub mod Summaries
 pub mod Sums
 pub mod Tales
 pub mod Telling
+pub mod Traces
 pub mod Verdicts
 pub mod Worked

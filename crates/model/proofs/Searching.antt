@@ -116,3 +116,21 @@ module _ (X : Setting) (places : ℕ) where
   dug_sound (suc k) s h =
       cond_both (pending s) (dug X places k (work X places s)) s (Sound X places)
       (λ more. dug_sound k (work X places s) (work_sound s h (ltb-true s.worked (length s.rows) (and_parts (not s.full) (ltb s.worked (length s.rows)) more).1))) (λ none. h)
+
+  -- working a fact only adds rows
+  work_adds : (s : Search) → (more : List Fact) × ((work X places s).rows ≡ s.rows ++ more)
+  unfolding work
+  work_adds s =
+      let t = offer_all places s (offers X s.rows s.worked) in
+      let m = offers_more places s (offers X s.rows s.worked) in
+      cond_both t.full t (record { rows = t.rows; worked = t.worked + 1; full = t.full }) (λ u. (more : List Fact) × (u.rows ≡ s.rows ++ more)) (λ full. m) (λ free. m)
+
+  -- and so does working up to k facts
+  pub dug_adds : (k : ℕ) (s : Search) → (more : List Fact) × ((dug X places k s).rows ≡ s.rows ++ more)
+  unfolding dug
+  dug_adds zero s = ([], sym (append-nil s.rows))
+  dug_adds (suc k) s =
+      let first = work_adds s in
+      let rest = dug_adds k (work X places s) in
+      cond_both (pending s) (dug X places k (work X places s)) s (λ t. (more : List Fact) × (t.rows ≡ s.rows ++ more))
+      (λ more. (first.0 ++ rest.0, rest.1 ∙ ap (λ rows. rows ++ rest.0) first.1 ∙ append_assoc s.rows first.0 rest.0)) (λ none. ([], sym (append-nil s.rows)))

@@ -56,3 +56,10 @@ tale_is rows i lt =
     ap (λ ts. get_or ts (i + 1) no_tale) (all_tales rows i le ∙ ap (tales_after (tales_below rows i)) (drop_more rows i no_fact lt))
     ∙ ap (λ k. get_or (tales_after (tales_below rows i) (row_at rows i ∷ drop (i + 1) rows)) k no_tale) (sym (below_length rows i le))
     ∙ tales_next (tales_below rows i) (row_at rows i) (drop (i + 1) rows)
+
+-- rows that are added behind a row do not change its tale
+pub tale_stays : (rows more : List Fact) (i : ℕ) → i < length rows → tale_at (rows ++ more) i ≡ tale_at rows i
+unfolding tale_at
+tale_stays rows more i lt =
+    let n = tales_length (no_tale ∷ []) rows in
+    ap (λ ts. get_or ts (i + 1) no_tale) (tales_append (no_tale ∷ []) rows more) ∙ tales_stay (tales_after (no_tale ∷ []) rows) more (i + 1) (omega arith)

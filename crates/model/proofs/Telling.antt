@@ -1,5 +1,5 @@
 -- What a sound search tells: its rows are yielded facts, none twice; a search that is through holds all of them; and a full one lacks some.
-use Rattle.std.proofs.Common.{◌≡◌, ℕ, zero, suc, ◌+◌, ◌<◌, ◌≤◌, true, ◌⊎◌, List, [], ◌∷◌, ◌++◌, map, length, get_or, take, sym, refl, ap, ◌∙◌, subst, inl, inr, arith}
+use Rattle.std.proofs.Common.{◌≡◌, ℕ, zero, suc, ◌+◌, ◌<◌, ◌≤◌, true, ◌⊎◌, List, [], ◌∷◌, ◌++◌, length, get_or, take, sym, refl, ap, ◌∙◌, subst, inl, inr, arith}
 use Rattle.std.proofs.lemmas.List.{length-append, length-map, length_push, length-take-le, get_or-take, get_or-map, take_all}
 use Rattle.std.proofs.lemmas.Bool.{both_ways, and_from, cases_order}
 use Rattle.model.specs.declared.Fact.{Fact}
@@ -8,7 +8,7 @@ use Rattle.model.specs.declared.Point.{Point}
 use Rattle.model.specs.Facts.{Setting, Derives, Yields, kind_at, follow_point, enter_point, back_point}
 use Rattle.model.specs.Facts.{first as derive_first, follow as derive_follow, enter as derive_enter, back as derive_back}
 use Rattle.model.specs.Runs.{Leads, goes_on, returns_at}
-use Rattle.model.specs.Searches.{Sound, HeldAt, Through, fact_in, Different, Told}
+use Rattle.model.specs.Searches.{Sound, HeldAt, Through, fact_in, Different, Told, facts_of}
 use Rattle.model.specs.Tables.{start_of, end_of, row_at, no_fact, hold, first_row, follow_row, enter_row, back_row, same_point, gives, is_held, Search, Tale, no_tale, tale_of, tale_at}
 use Rattle.model.proofs.Summaries.{facts_sum_up_runs}
 use Rattle.model.proofs.Grounded.{Given, first, follow, enter, back, given_derived, derived_given, Grounded, grounded_push}
@@ -29,10 +29,10 @@ abbrev Tells : Setting → Fact → Tale → Type 0
 Tells X f t = Derives X (start_of f) (end_of f) t.stretch t.below × (f.span ≡ hold (length t.stretch))
 
 -- the two points of a row's fact
-abbrev fact_of : Fact → Point × Point
+abbrev pub fact_of : Fact → Point × Point
 fact_of r = (start_of r, end_of r)
 
-fact_in_lem : (rows : List Fact) (i : ℕ) → i < length rows → fact_in (map fact_of rows) i ≡ fact_of (row_at rows i)
+pub fact_in_lem : (rows : List Fact) (i : ℕ) → i < length rows → fact_in (facts_of rows) i ≡ fact_of (row_at rows i)
 fact_in_lem rows i lt = get_or-map fact_of rows i no_fact _ lt
 
 module _ (X : Setting) (rows : List Fact) where
@@ -93,7 +93,7 @@ module _ (X : Setting) (rows : List Fact) where
         by (inr (inr gt)) = absurd (rows_apart j i gt p.0 (q.1 ∙ sym p.1) (q.2 ∙ sym p.2))
 
     -- the facts of the rows are yielded, and no two of them are the same
-    facts_differ : Different X (map fact_of rows)
+    pub facts_differ : Different X (facts_of rows)
     facts_differ =
         let n = length-map rows fact_of in
         record {
@@ -164,5 +164,5 @@ search_tells X places s h =
           let b = h.beyond full in
           let f = b.1.0 in
           let n = length_push rows f in
-          (b.0, (map fact_of (rows ++ f ∷ []), simp length-map (omega arith), facts_differ X (rows ++ f ∷ []) (grounded_push X rows f ground (derived_given X rows b.1.1) b.1.2)));
+          (b.0, (facts_of (rows ++ f ∷ []), simp length-map (omega arith), facts_differ X (rows ++ f ∷ []) (grounded_push X rows f ground (derived_given X rows b.1.1) b.1.2)));
     }

@@ -1,32 +1,25 @@
 -- Verdicts: what a sound search says is right, and a long dig leaves nothing unfinished.
 use Rattle.std.proofs.Common.{◌≡◌, ℕ, zero, suc, ◌+◌, ◌<◌, ◌≤◌, true, false, not, ltb, leb, ◌⊎◌, List, [], ◌∷◌, length, sym, refl, ap, ◌∙◌, inl, inr, arith}
-use Rattle.std.proofs.lemmas.Bool.{both_ways, or_cases, or_parts, and_from, and_parts, not-true, not_from_false, leb-true, leb-false, lt-ltb, cond-true, cond-false, cond_both, cases_Bool}
+use Rattle.std.proofs.lemmas.Bool.{both_ways, or_parts, and_from, and_parts, not-true, not_from_false, false_from_ne_true, ltb-true, leb-true, leb-false, lt-ltb, cond-true, cond-false, cond_both, cases_Bool}
 use Rattle.model.specs.declared.Fact.{Fact}
 use Rattle.model.specs.declared.Verdict.{Verdict}
 use Rattle.model.specs.declared.Verdict.TheVariants.{Safe, Unsafe, Full, Unfinished}
 use Rattle.model.specs.Facts.{Setting}
 use Rattle.model.specs.Searches.{Sound, Told, Means, SearchLaws}
-use Rattle.model.specs.Tables.{Search, row_at, any_bad, verdict_of, offer_all, offers, work, pending, dug}
+use Rattle.model.specs.Tables.{Search, row_at, any_bad, first_bad, verdict_of, offer_all, offers, work, pending, dug}
 use Rattle.model.specs.Watches.{Watch}
 use Rattle.model.proofs.Held.{offers_worked}
-use Rattle.model.proofs.Searching.{opened_sound, dug_sound}
+use Rattle.model.proofs.Linking.{links_sound, links_fit, links_agree}
+use Rattle.model.proofs.Searching.{opened_sound, dug_sound, dug_adds}
 use Rattle.model.proofs.Telling.{search_tells}
+use Rattle.model.proofs.Traces.{first_is_bad, told_shows, trace_stays}
 
--- where no held fact is bad, none of the rows is; where one is, some row is
+-- where no held fact is bad, none of the rows is
 pub none_bad : (W : Watch) (rows : List Fact) (i : ℕ) → any_bad W rows ≡ false → i < length rows → W.bad (row_at rows i).state ≡ false
 unfolding any_bad
 none_bad W [] i h lt = absurd (omega arith)
 none_bad W (r ∷ rows) zero h lt = (or_parts (W.bad r.state) (any_bad W rows) h).0
 none_bad W (r ∷ rows) (suc i) h lt = none_bad W rows i (or_parts (W.bad r.state) (any_bad W rows) h).1 (omega arith)
-
-some_bad : (W : Watch) (rows : List Fact) → any_bad W rows ≡ true → (i : ℕ) × (i < length rows) × (W.bad (row_at rows i).state ≡ true)
-unfolding any_bad
-some_bad W [] h = absurd (both_ways false refl h)
-some_bad W (r ∷ rows) h = by (some_bad W rows) (or_cases (W.bad r.state) (any_bad W rows) h)
-  where
-    by : (any_bad W rows ≡ true → (i : ℕ) × (i < length rows) × (W.bad (row_at rows i).state ≡ true)) → (W.bad r.state ≡ true) ⊎ (any_bad W rows ≡ true) → (i : ℕ) × (i < suc (length rows)) × (W.bad (row_at (r ∷ rows) i).state ≡ true)
-    by later (inl here) = (0, omega arith, here)
-    by later (inr h) = let p = later h in (suc p.0, omega (arith, p.1), p.2)
 
 -- the four cases of a verdict, each with what led to it
 data Led (W : Watch) (s : Search) : Verdict → Type 0 where
@@ -46,7 +39,7 @@ module _ (X : Setting) (places : ℕ) (s : Search) (told : Told X places s) wher
   led_means (bad h) = record {
     safe = λ e. absurd (let z : ◌≡◌ {A = ℕ} 0 1 = cc in omega arith);
     exact = λ e. absurd (let z : ◌≡◌ {A = ℕ} 0 1 = cc in omega arith);
-    unsafe = λ e. let p = some_bad X.watch s.rows h in told.bad_run p.0 p.1 p.2;
+    unsafe = λ e. let p = first_is_bad X.watch s.rows h in told.bad_run (first_bad X.watch s.rows) p.0 p.1;
     full = λ e. absurd (let z : ◌≡◌ {A = ℕ} 0 1 = cc in omega arith);
   }
   led_means (past h) = record {
@@ -104,7 +97,23 @@ module _ (X : Setting) (places : ℕ) where
       let same = ap (λ (u : Search). u.worked) next in
       omega arith
 
--- a dig of as many facts as there are places leaves nothing unfinished
+  -- where nothing is to be worked a dig changes nothing
+  pub dug_rests : (k : ℕ) (s : Search) → pending s ≡ false → dug X places k s ≡ s
+  unfolding dug
+  dug_rests zero s none = refl
+  dug_rests (suc k) s none = cond-false (pending s) (dug X places k (work X places s)) s none
+
+  -- a dig of as many facts as there are places leaves nothing to work
+  pub dug_works_all : (k : ℕ) (s : Search) → Sound X places s → places ≤ k → pending (dug X places k s) ≡ false
+  dug_works_all k s sound enough =
+      let t = dug X places k s in
+      let few = (dug_sound X places k s sound).placed in
+      false_from_ne_true (pending t) (λ busy.
+      let far = dug_all k s busy in
+      let more = ltb-true t.worked (length t.rows) (and_parts (not t.full) (ltb t.worked (length t.rows)) busy).1 in
+      omega arith)
+
+-- so its verdict is not that it is unfinished
 pub dug_ends : (X : Setting) (places k : ℕ) (s : Search) → Sound X places s → places ≤ k → verdict_of X.watch (dug X places k s) ≡ Unfinished → ⊥
 dug_ends X places k s sound enough = by (led X.watch t)
   where
@@ -116,10 +125,22 @@ dug_ends X places k s sound enough = by (led X.watch t)
     by (past h) e = let z : ◌≡◌ {A = ℕ} 0 1 = cc in omega arith
     by (through none free all) e = let z : ◌≡◌ {A = ℕ} 0 1 = cc in omega arith
     by (left free more) e =
-        let busy = and_from (not t.full) (ltb t.worked (length t.rows)) (not_from_false t.full free) (lt-ltb t.worked (length t.rows) more) in
-        let far = dug_all X places k s busy in
-        let few = (dug_sound X places k s sound).placed in
-        omega arith
+        both_ways (pending t) (dug_works_all X places k s sound enough)
+        (and_from (not t.full) (ltb t.worked (length t.rows)) (not_from_false t.full free) (lt-ltb t.worked (length t.rows) more))
 
 pub search_laws : SearchLaws
-search_laws = record { opens = opened_sound; digs = dug_sound; tells = search_tells; judges = verdict_means; ends = dug_ends }
+search_laws = record {
+  opens = opened_sound;
+  digs = dug_sound;
+  tells = search_tells;
+  judges = verdict_means;
+  ends = dug_ends;
+  works_all = dug_works_all;
+  rests = dug_rests;
+  links = links_sound;
+  shows = λ X places s h. told_shows X places s (search_tells X places s h);
+  adds = dug_adds;
+  stays = trace_stays;
+  fits = links_fit;
+  agrees = links_agree;
+}

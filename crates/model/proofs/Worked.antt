@@ -1,34 +1,22 @@
 -- The worked cases. Of recipe A both searches are computed, and a search that is through holds all that is yielded.
-use Rattle.std.proofs.Common.{◌≡◌, ℕ, ◌<◌, false, List, [], ◌∷◌, map, length, sym, refl, ap, ◌∙◌, subst, ap₂, arith}
-use Rattle.std.proofs.lemmas.List.{length-map, get_or-map}
+use Rattle.std.proofs.Common.{◌≡◌, ℕ, ◌<◌, false, [], ◌∷◌, length, sym, refl, ap, ◌∙◌, subst, ap₂, arith}
+use Rattle.std.proofs.lemmas.List.{length-map}
 use Rattle.std.proofs.lemmas.Bool.{both_ways}
-use Rattle.model.specs.declared.Fact.{Fact}
 use Rattle.model.specs.declared.Point.{Point}
 use Rattle.model.specs.Facts.{Setting, Yields, FactIsBad}
 use Rattle.model.specs.Program.{home}
 use Rattle.model.specs.RecipeA.{history_a, stack_a}
-use Rattle.model.specs.Searches.{Through, Told, HeldAt, fact_in, trace_at}
-use Rattle.model.specs.Tables.{start_of, end_of, no_fact, row_at, is_held, targets, each_of, offers, Search, offer, offer_all, opened, work, dug, any_bad, first_bad, tales_after, tale_at}
+use Rattle.model.specs.Searches.{Through, Told, HeldAt, fact_in, trace_at, facts_of}
+use Rattle.model.specs.Tables.{is_held, targets, each_of, offers, Search, offer, offer_all, opened, work, dug, any_bad, first_bad, tales_after, tale_at}
 use Rattle.model.specs.Worked.{YieldsExactly, Worked}
 use Rattle.model.proofs.Searching.{opened_sound, dug_sound}
-use Rattle.model.proofs.Telling.{search_tells}
+use Rattle.model.proofs.Telling.{fact_of, fact_in_lem, search_tells}
 use Rattle.model.proofs.Verdicts.{none_bad}
 
--- the fact of a row, and of each row of a table
-abbrev pub fact_of : Fact → Point × Point
-fact_of r = (start_of r, end_of r)
-
-abbrev pub facts_of : List Fact → List (Point × Point)
-facts_of rows = map fact_of rows
-
 module _ (X : Setting) (places : ℕ) (s : Search) (told : Told X places s) where
-  -- the fact at a place of the facts is that of the row there
-  pub fact_at : (i : ℕ) → i < length s.rows → fact_in (facts_of s.rows) i ≡ fact_of (row_at s.rows i)
-  fact_at i lt = get_or-map fact_of s.rows i no_fact _ lt
-
   -- what is held at a place has its fact there
   pub held_fact : (i : ℕ) (a x : Point) → i < length s.rows → fact_in (facts_of s.rows) i ≡ (a, x) → HeldAt s.rows a x i
-  held_fact i a x lt e = let h = sym (fact_at i lt) ∙ e in (lt, ap (λ (p : Point × Point). p.0) h, ap (λ (p : Point × Point). p.1) h)
+  held_fact i a x lt e = let h = sym (fact_in_lem s.rows i lt) ∙ e in (lt, ap (λ (p : Point × Point). p.0) h, ap (λ (p : Point × Point). p.1) h)
 
   -- a search that is through holds exactly the facts that are yielded
   pub through_exact : Through s → YieldsExactly X (length s.rows)
@@ -39,7 +27,7 @@ module _ (X : Setting) (places : ℕ) (s : Search) (told : Told X places s) wher
         record {
           yielded = λ i lt.
               let k : i < length s.rows = omega arith in
-              subst (λ (p : Point × Point). Yields X p.0 p.1) (sym (fact_at i k)) (_, _, told.yielded i k);
+              subst (λ (p : Point × Point). Yields X p.0 p.1) (sym (fact_in_lem s.rows i k)) (_, _, told.yielded i k);
           apart = λ i j lt le e.
               let k : j < length s.rows = omega arith in
               let l : i < length s.rows = omega arith in
@@ -49,7 +37,7 @@ module _ (X : Setting) (places : ℕ) (s : Search) (told : Told X places s) wher
         },
         λ a x y.
             let h = told.exact through a x y in
-            (h.0, omega arith, fact_at h.0 h.1.0 ∙ ap₂ (λ (p q : Point). (p, q)) h.1.1 h.1.2),
+            (h.0, omega arith, fact_in_lem s.rows h.0 h.1.0 ∙ ap₂ (λ (p q : Point). (p, q)) h.1.1 h.1.2),
       )
 
   -- and if it holds no bad fact, none is yielded

@@ -2,6 +2,7 @@ pub mod Access
 pub mod Agreement
 pub mod Facts
 pub mod Lawful
+pub mod Links
 pub mod Models
 pub mod Program
 pub mod RecipeA

@@ -48,7 +48,7 @@ pub data Run (p : Program) (es : List Edge) (R : Rule) (W : Watch) : List ℕ �
   back : {t : List ℕ} {x u n v : ℕ} {fs : List Frame} {q : ℕ} (m : ℕ) → Run p es R W t (record { node = x; value = u } ∷ record { node = n; value = v } ∷ fs) q → returns_at p x ≡ true → is_call (node_at p n).kind ≡ true → Leads es n m
       → Run p es R W (m ∷ t) (record { node = m; value = R.back v n u x } ∷ fs) (W.step q (reads p m))
 
--- the run's trace is determined by nothing else, and determines the rest: one list of nodes is the trace of at most one run
+-- two runs with one trace have the same frames and the same state
 abbrev pub FollowsFromTrace : Type 0
 FollowsFromTrace =
     (p : Program) (es : List Edge) (R : Rule) (W : Watch) (t : List ℕ) (fs gs : List Frame) (q r : ℕ) → Run p es R W t fs q → Run p es R W t gs r → (fs ≡ gs) × (q ≡ r)

@@ -1,13 +1,17 @@
 -- What holds of an inquiry: each row is derived from rows before it, and one that is through holds exactly the facts that are yielded.
-use Rattle.std.specs.Prelude.{◌≡◌, ℕ, ◌<◌, ◌≤◌, true, false, List, ◌++◌, reverse, length, take, ◌≢◌, slice_index_or}
+use Rattle.std.specs.Prelude.{◌≡◌, ℕ, ◌<◌, ◌≤◌, true, false, List, ◌++◌, map, reverse, length, take, ◌≢◌, IsPermutation, slice_index_or}
+use Rattle.model.specs.declared.Edge.{Edge}
 use Rattle.model.specs.declared.Fact.{Fact}
+use Rattle.model.specs.declared.Frame.{Frame}
 use Rattle.model.specs.declared.Verdict.{Verdict}
 use Rattle.model.specs.declared.Verdict.TheVariants.{Safe, Unsafe, Full, Unfinished}
 use Rattle.model.specs.Access.{is_entry_of, call_enters}
 use Rattle.model.specs.declared.Point.{Point}
-use Rattle.model.specs.Facts.{Setting, Derives, Yields, RunGoesBad, kind_at}
+use Rattle.model.specs.Facts.{Setting, Derives, Yields, RunIn, RunGoesBad, kind_at}
+use Rattle.model.specs.Links.{with_edges, Among}
 use Rattle.model.specs.Runs.{Leads, goes_on}
-use Rattle.model.specs.Tables.{start_of, end_of, row_at, hold, first_row, follow_row, enter_row, back_row, is_held, joins, Search, opened, dug, verdict_of, tale_at}
+use Rattle.model.specs.Watches.{Watch}
+use Rattle.model.specs.Tables.{start_of, end_of, row_at, hold, first_row, follow_row, enter_row, back_row, is_held, joins, Search, opened, pending, dug, any_bad, first_bad, verdict_of, tale_at}
 
 -- a row is given by its rule from rows of the table, and names them as its sources
 pub data DerivedFrom (X : Setting) (rows : List Fact) : Fact → Type 0 where
@@ -71,9 +75,25 @@ pub record Told (X : Setting) (places : ℕ) (s : Search) : Type 0 where
 abbrev pub trace_at : List Fact → ℕ → List ℕ
 trace_at rows i = reverse ((tale_at rows i).stretch ++ (tale_at rows i).below)
 
+-- the trace of the first bad row, where a row is bad
+abbrev pub first_trace : Watch → List Fact → List ℕ
+first_trace W rows = trace_at rows (first_bad W rows)
+
+-- a list of nodes is the trace of a run that leaves the watch bad
+abbrev pub BadTrace : Setting → List ℕ → Type 0
+BadTrace X ns = (fs : List Frame) × (q : ℕ) × RunIn X (reverse ns) fs q × (X.watch.bad q ≡ true)
+
+-- the facts of a table's rows, in their order
+abbrev pub facts_of : List Fact → List (Point × Point)
+facts_of rows = map (λ r. (start_of r, end_of r)) rows
+
+-- all facts are unworked again
+abbrev pub unworked : Search → Search
+unworked s = record { rows = s.rows; worked = 0; full = s.full }
+
 -- what a verdict says, of an inquiry with so many places
 pub record Means (X : Setting) (places : ℕ) (s : Search) (v : Verdict) : Type 0 where
-  -- safe: no run leaves the watch bad, and the facts held are those that are yielded
+  -- safe: no run leaves the watch bad, and each yielded fact is held
   pub safe : v ≡ Safe → RunGoesBad X → ⊥
   pub exact : v ≡ Safe → (a x : Point) → Yields X a x → (i : ℕ) × HeldAt s.rows a x i
   -- unsafe: some run does
@@ -88,3 +108,16 @@ pub record SearchLaws : Type 0 where
   pub tells : (X : Setting) (places : ℕ) (s : Search) → Sound X places s → Told X places s
   pub judges : (X : Setting) (places : ℕ) (s : Search) → Sound X places s → Means X places s (verdict_of X.watch s)
   pub ends : (X : Setting) (places k : ℕ) (s : Search) → Sound X places s → places ≤ k → verdict_of X.watch (dug X places k s) ≢ Unfinished
+  -- such a dig leaves nothing to work, and where nothing is to be worked a dig changes nothing
+  pub works_all : (X : Setting) (places k : ℕ) (s : Search) → Sound X places s → places ≤ k → pending (dug X places k s) ≡ false
+  pub rests : (X : Setting) (places k : ℕ) (s : Search) → pending s ≡ false → dug X places k s ≡ s
+  -- with more edges a search stays sound, if it is not full and all its facts are to be worked again
+  pub links : (X : Setting) (es : List Edge) (places : ℕ) (s : Search) → Sound X places s → s.full ≡ false → Among X.edges es → Sound (with_edges X es) places (unworked s)
+  -- where a row is bad, the trace of the first one is that of a bad run
+  pub shows : (X : Setting) (places : ℕ) (s : Search) → Sound X places s → any_bad X.watch s.rows ≡ true → BadTrace X (first_trace X.watch s.rows)
+  -- a dig only adds rows, and rows that are added change neither that a row is bad nor that trace
+  pub adds : (X : Setting) (places k : ℕ) (s : Search) → (more : List Fact) × ((dug X places k s).rows ≡ s.rows ++ more)
+  pub stays : (W : Watch) (rows more : List Fact) → any_bad W rows ≡ true → (any_bad W (rows ++ more) ≡ true) × (first_trace W (rows ++ more) ≡ first_trace W rows)
+  -- where a search that is through had room for all that is yielded, none with the same edges or fewer is full; and two that are through with the same edges hold the same facts
+  pub fits : (X : Setting) (es : List Edge) (places : ℕ) (s t : Search) → Sound X places s → Through s → Sound (with_edges X es) places t → Among es X.edges → t.full ≡ false
+  pub agrees : (X : Setting) (es : List Edge) (places : ℕ) (s t : Search) → Sound X places s → Through s → Sound (with_edges X es) places t → Through t → Among es X.edges → Among X.edges es → IsPermutation (facts_of s.rows) (facts_of t.rows)

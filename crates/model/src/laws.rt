@@ -1,6 +1,7 @@
 // Laws of the mathematics, each on the contract of a function that does nothing else.
 ghost use Rattle.model.specs.Agreement.{HistoryAgrees, StackAgrees};
 ghost use Rattle.model.specs.Facts.{FactsSumUpRuns};
+ghost use Rattle.model.specs.Links.{LinkLaws};
 ghost use Rattle.model.specs.Runs.{FollowsFromTrace};
 ghost use Rattle.model.specs.Searches.{SearchLaws};
 ghost use Rattle.model.specs.Worked.{Worked};
@@ -33,4 +34,9 @@ pub fn facts_sum_up_runs()
 // An opening is sound, digging keeps that, and a sound one tells which facts are yielded and whether a run goes bad.
 pub fn tables_tell_facts()
     ensures { SearchLaws }
+{}
+
+// A link adds an edge to those that count, and with more edges there are more runs and more facts.
+pub fn links_add_edges()
+    ensures { LinkLaws }
 {}
