@@ -9,7 +9,7 @@ use Rattle.recipe.specs.Bytes.{count_in, contents_in, method_in, node_in, edge_i
 use Rattle.recipe.specs.declared.contents.Body.{Body}
 use Rattle.recipe.specs.declared.contents.Contents.{Contents}
 use Rattle.recipe.specs.declared.grounds.Refusal.{Refusal}
-use Rattle.recipe.specs.declared.grounds.Refusal.TheVariants.{Misplaced, Miscounted, BadMethod, BadNode, BadEdge, BadRow, TooMany, OtherCounts, UnfitTable, NotAStep, StackFull, ShortOutput}
+use Rattle.recipe.specs.declared.grounds.Refusal.TheVariants.{Misplaced, Miscounted, BadMethod, BadNode, BadEdge, BadRow, TooMany, OtherCounts, UnfitTable, NotAnEdge, EdgeHeld, EdgesFull, InquiryFull, NotUnsafe, LongTrace, NotAStep, StackFull, ShortOutput}
 
 -- the number of a refusal
 abbrev pub number_of : Refusal → ℕ
@@ -22,11 +22,17 @@ number_of (BadRow row) = 6
 number_of TooMany = 7
 number_of OtherCounts = 8
 number_of UnfitTable = 9
+number_of NotAnEdge = 10
+number_of EdgeHeld = 11
+number_of EdgesFull = 12
+number_of InquiryFull = 13
+number_of NotUnsafe = 14
+number_of (LongTrace n) = 15
 number_of (NotAStep place) = 16
 number_of (StackFull place) = 17
 number_of (ShortOutput needed) = 18
 
--- what a refusal says beside its number: which one of them is wrong, how many bytes are needed, or 0
+-- what a refusal says beside its number: which one of them is wrong, how many nodes a trace has, how many bytes are needed, or 0
 abbrev pub detail_of : Refusal → ℕ
 detail_of (Misplaced entry) = entry
 detail_of (Miscounted entry) = entry
@@ -37,6 +43,12 @@ detail_of (BadRow row) = row
 detail_of TooMany = 0
 detail_of OtherCounts = 0
 detail_of UnfitTable = 0
+detail_of NotAnEdge = 0
+detail_of EdgeHeld = 0
+detail_of EdgesFull = 0
+detail_of InquiryFull = 0
+detail_of NotUnsafe = 0
+detail_of (LongTrace n) = n
 detail_of (NotAStep place) = place
 detail_of (StackFull place) = place
 detail_of (ShortOutput needed) = needed

@@ -21,6 +21,18 @@ pub enum Refusal {
     OtherCounts,
     // The edge table is too short for the recipe or longer than 4,096 places, or the fact table longer than 65,536.
     UnfitTable,
+    // The pair of nodes that is to be linked is no edge by the rules.
+    NotAnEdge,
+    // The edge that is to be linked is there already.
+    EdgeHeld,
+    // The edge table has no place free.
+    EdgesFull,
+    // The inquiry is full, so it takes no link.
+    InquiryFull,
+    // The verdict is not unsafe, so there is no trace.
+    NotUnsafe,
+    // The output is too short for the trace, or its length is the greatest number that is told.
+    LongTrace { length: u32 },
     // The node given is no step from where the run stands, or there is none.
     NotAStep { place: usize },
     // The step needs a frame more than the stack has.

@@ -15,6 +15,16 @@ impl fmt::Display for Refusal {
             Refusal::TooMany => f.write_str(TOO_MANY),
             Refusal::OtherCounts => f.write_str(OTHER_COUNTS),
             Refusal::UnfitTable => f.write_str(UNFIT_TABLE),
+            Refusal::NotAnEdge => f.write_str(NOT_AN_EDGE),
+            Refusal::EdgeHeld => f.write_str("this edge is there already"),
+            Refusal::EdgesFull => f.write_str("the edge table has no place free"),
+            Refusal::InquiryFull => f.write_str("the inquiry is full"),
+            Refusal::NotUnsafe => f.write_str("the verdict is not unsafe"),
+            Refusal::LongTrace { length: u32::MAX } => f.write_str(ENDLESS_TRACE),
+            Refusal::LongTrace { length } => write!(
+                f,
+                "the output is too short: the trace has {length} nodes"
+            ),
             Refusal::NotAStep { place } => write!(
                 f,
                 "place {place}: this node is no step of the run"
@@ -51,6 +61,11 @@ const OTHER_COUNTS: &str =
 
 const UNFIT_TABLE: &str =
     "the edge table is too short for the recipe or longer than 4096 places, or the fact table is longer than 65536";
+
+const NOT_AN_EDGE: &str =
+    "this pair of nodes is no edge: an edge leads from a node that is no return to a node of the same method";
+
+const ENDLESS_TRACE: &str = "the trace has 4294967295 nodes or more";
 
 // The bodies that the entries of the table of contents are of, in their order.
 fn body(entry: u32) -> &'static str {

@@ -14,7 +14,7 @@ use Rattle.model.specs.Runs.{Run, start, pass, enter, back, reads, Leads, goes_o
 use Rattle.model.specs.Watches.{Watch}
 use Rattle.model.proofs.Determined.{follows_from_trace}
 use Rattle.recipe.specs.declared.grounds.Refusal.{Refusal}
-use Rattle.recipe.specs.declared.grounds.Refusal.TheVariants.{Misplaced, Miscounted, BadMethod, BadNode, BadEdge, BadRow, TooMany, OtherCounts, UnfitTable, NotAStep, StackFull, ShortOutput}
+use Rattle.recipe.specs.declared.grounds.Refusal.TheVariants.{Misplaced, Miscounted, BadMethod, BadNode, BadEdge, BadRow, TooMany, OtherCounts, UnfitTable, NotAnEdge, EdgeHeld, EdgesFull, InquiryFull, NotUnsafe, LongTrace, NotAStep, StackFull, ShortOutput}
 use Rattle.walker.specs.declared.stands.Stand.{Stand}
 use Rattle.walker.specs.Accepted.{frames_in, Stands, Refuses, Enough}
 use Rattle.walker.specs.Walking.{no_frame, leads, step_by, step_from, step_first, step_answer, step_stack, stand_at, Walked, advance_by, replay_from, begun, replayed}
@@ -319,10 +319,26 @@ module _ (p : Program) (es : List Edge) (R : Rule) (W : Watch) where
   decides ns room stack (Err TooMany) h enough = absurd h
   decides ns room stack (Err OtherCounts) h enough = absurd h
   decides ns room stack (Err UnfitTable) h enough = absurd h
+  decides ns room stack (Err NotAnEdge) h enough = absurd h
+  decides ns room stack (Err EdgeHeld) h enough = absurd h
+  decides ns room stack (Err EdgesFull) h enough = absurd h
+  decides ns room stack (Err InquiryFull) h enough = absurd h
+  decides ns room stack (Err NotUnsafe) h enough = absurd h
+  decides ns room stack (Err (LongTrace n)) h enough = absurd h
   decides ns room stack (Err (ShortOutput needed)) h enough = absurd h
 
   pub accepts : (ns : List ℕ) (stack : List Frame) → Enough p es R W ns (length stack) → Decides (is_ok (replayed p es R W ns stack).at) (RunTrace p es R W ns)
   accepts ns stack = decides ns (length stack) (replayed p es R W ns stack).stack (replayed p es R W ns stack).at (told ns stack)
+
+  -- a run has no more frames than nodes in its trace, so a stack of as many places as a list has nodes is long enough for it
+  few_frames : {t : List ℕ} {fs : List Frame} {q : ℕ} → Run p es R W t fs q → length fs ≤ length t
+  few_frames (start a) = omega arith
+  few_frames (pass m r g l) = omega (arith, few_frames r)
+  few_frames (enter m r g) = omega (arith, few_frames r)
+  few_frames (back m r a b l) = omega (arith, few_frames r)
+
+  pub enough_room : (ns : List ℕ) (room : ℕ) → length ns ≤ room → Enough p es R W ns room
+  enough_room ns room fits k fs q r = let few = few_frames r in let a = length-reverse (take k ns) in let b = length-take k ns in omega arith
 
   -- an answer and a stack that are those of the walk
   module _ (ns : List ℕ) (stack : List Frame) (a : Result Stand Refusal) (last : List Frame) (answer : a ≡ (replayed p es R W ns stack).at) (frames : last ≡ (replayed p es R W ns stack).stack) where

@@ -8,7 +8,7 @@ use Rattle.model.specs.Program.{Program}
 use Rattle.model.specs.Runs.{Run}
 use Rattle.model.specs.Watches.{Watch}
 use Rattle.recipe.specs.declared.grounds.Refusal.{Refusal}
-use Rattle.recipe.specs.declared.grounds.Refusal.TheVariants.{Misplaced, Miscounted, BadMethod, BadNode, BadEdge, BadRow, TooMany, OtherCounts, UnfitTable, NotAStep, StackFull, ShortOutput}
+use Rattle.recipe.specs.declared.grounds.Refusal.TheVariants.{Misplaced, Miscounted, BadMethod, BadNode, BadEdge, BadRow, TooMany, OtherCounts, UnfitTable, NotAnEdge, EdgeHeld, EdgesFull, InquiryFull, NotUnsafe, LongTrace, NotAStep, StackFull, ShortOutput}
 use Rattle.walker.specs.Walking.{no_frame}
 use Rattle.walker.specs.declared.stands.Stand.{Stand}
 
@@ -36,6 +36,12 @@ Refuses p es R W ns room (BadRow row) = ⊥
 Refuses p es R W ns room TooMany = ⊥
 Refuses p es R W ns room OtherCounts = ⊥
 Refuses p es R W ns room UnfitTable = ⊥
+Refuses p es R W ns room NotAnEdge = ⊥
+Refuses p es R W ns room EdgeHeld = ⊥
+Refuses p es R W ns room EdgesFull = ⊥
+Refuses p es R W ns room InquiryFull = ⊥
+Refuses p es R W ns room NotUnsafe = ⊥
+Refuses p es R W ns room (LongTrace n) = ⊥
 Refuses p es R W ns room (ShortOutput needed) = ⊥
 
 -- enough stack: of each front of the list that is the trace of a run, the frames fit

@@ -1,5 +1,5 @@
 // Replays a list of nodes.
-ghost use Rattle.std.specs.Prelude.{◌≡◌, length, take, is_ok, Decides, MatchResult};
+ghost use Rattle.std.specs.Prelude.{◌≡◌, ◌≤◌, length, take, is_ok, Decides, MatchResult};
 ghost use Rattle.model.specs.Agreement.{RunTrace};
 ghost use Rattle.rules.specs.Subjects.{setting_of};
 ghost use Rattle.walker.specs.Accepted.{Stands, Refuses, Enough};
@@ -52,6 +52,7 @@ pub fn replay<R: AccessRule, W: Watch>(
     ensures frames { let X = setting_of R.meaning W.watching on.now (take 4096 edges.now) in stack.new ≡ (replayed X.program X.edges X.rule X.watch nodes.now stack.old).stack }
     ensures told { let X = setting_of R.meaning W.watching on.now (take 4096 edges.now) in MatchResult result (Stands X.program X.edges X.rule X.watch nodes.now stack.new) (Refuses X.program X.edges X.rule X.watch nodes.now (length stack.old)) }
     ensures accepts { let X = setting_of R.meaning W.watching on.now (take 4096 edges.now) in Enough X.program X.edges X.rule X.watch nodes.now (length stack.old) → Decides (is_ok result) (RunTrace X.program X.edges X.rule X.watch nodes.now) }
+    ensures enough { let X = setting_of R.meaning W.watching on.now (take 4096 edges.now) in length nodes.now ≤ length stack.old → Enough X.program X.edges X.rule X.watch nodes.now (length stack.old) }
 {
     walk_along(on, edges, stack, nodes)
 }

@@ -1,6 +1,6 @@
-use Rattle.std.proofs.Common.{take}
+use Rattle.std.proofs.Common.{length, take}
 use Rattle.rules.specs.Subjects.{setting_of}
-use Rattle.walker.proofs.Walks.{told_so, accepts_so}
+use Rattle.walker.proofs.Walks.{told_so, accepts_so, enough_room}
 use Rattle.walker.proofs.replaying.replay.Goals as goal
 
 pub returns : goal.returns
@@ -12,4 +12,5 @@ returns g c =
       frames = done.frames;
       told = told_so X.program X.edges X.rule X.watch c.args.nodes.now c.args.stack.now c.walk_along.result c.walk_along.new.stack done.answer done.frames;
       accepts = accepts_so X.program X.edges X.rule X.watch c.args.nodes.now c.args.stack.now c.walk_along.result c.walk_along.new.stack done.answer done.frames;
+      enough = enough_room X.program X.edges X.rule X.watch c.args.nodes.now (length c.args.stack.now);
     }
