@@ -19,7 +19,7 @@ pub grown_same : (t : Inquiry) → Grown t t
 grown_same t = record { same = refl; places = refl; more = omega arith; kept = refl; rest = refl; opening = refl; fits = refl }
 
 -- lists that are the same from a place on are so from a later one
-pub drop_later : (m n : ℕ) (xs ys : List Fact) → m ≤ n → drop m xs ≡ drop m ys → drop n xs ≡ drop n ys
+pub drop_later : {A : Type 0} (m n : ℕ) (xs ys : List A) → m ≤ n → drop m xs ≡ drop m ys → drop n xs ≡ drop n ys
 drop_later m n xs ys le e =
     let split : m + (n - m) ≡ n = omega arith in
     ap (λ k. drop k xs) (sym split) ∙ sym (drop-drop (n - m) m xs) ∙ ap (drop (n - m)) e ∙ drop-drop (n - m) m ys ∙ ap (λ k. drop k ys) split

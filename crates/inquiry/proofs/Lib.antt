@@ -1,7 +1,14 @@
 pub mod Answering
 pub mod Begun
+pub mod Chaining
+pub mod Filling
 pub mod Growing
+pub mod Hanging
+pub mod Links
 pub mod Looking
+pub mod Placing
 pub mod Drained
+pub mod Showing
 pub mod Steps
+pub mod Stretches
 pub mod Wholes

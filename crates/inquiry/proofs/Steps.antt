@@ -59,16 +59,11 @@ module _ (X : Setting) (b a : Inquiry) (lt : b.worked < b.held)
   pub unfinished : a.full ≡ true → state_of a ≡ work X b.places (state_of b)
   unfinished full = sym (cond-true a.full (state_of a) (record { rows = (state_of a).rows; worked = a.worked + 1; full = a.full }) full) ∙ works
 
--- a dig of nothing, with nothing to work, and of one fact more
+-- a dig of nothing, and of one fact more
 module _ (X : Setting) (places : ℕ) (s : Search) where
   pub dug_none : (k : ℕ) → k ≡ 0 → dug X places k s ≡ s
   unfolding dug
   dug_none k e = ap (λ n. dug X places n s) e
-
-  pub dug_idle : (k : ℕ) → pending s ≡ false → dug X places k s ≡ s
-  unfolding dug
-  dug_idle zero idle = refl
-  dug_idle (suc k) idle = cond-false (pending s) (dug X places k (work X places s)) s idle
 
   pub dug_more : (k j : ℕ) → k ≡ suc j → pending s ≡ true → dug X places k s ≡ dug X places j (work X places s)
   unfolding dug

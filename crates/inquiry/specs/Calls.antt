@@ -1,12 +1,16 @@
 -- What the calls of an inquiry answer, and when they are refused.
-use Rattle.std.specs.Prelude.{ℕ, ◌-◌, Bool, cond, ◌&&◌, List, length, take, Ok, Err, Result, ◌==◌, nat_le}
+use Rattle.std.specs.Prelude.{ℕ, ◌-◌, Bool, cond, ◌&&◌, List, ◌++◌, length, take, drop, Ok, Err, Result, ◌==◌, nat_le, nat_lt}
 use Rattle.model.specs.declared.Edge.{Edge}
 use Rattle.model.specs.Facts.{Setting}
-use Rattle.model.specs.Tables.{Search, verdict_of}
+use Rattle.model.specs.Links.{is_listed}
+use Rattle.model.specs.Program.{Program, is_edge, counted}
+use Rattle.model.specs.Searches.{first_trace}
+use Rattle.model.specs.Tables.{hold, Search, any_bad, verdict_of}
 use Rattle.model.specs.Watches.{Watch}
 use Rattle.recipe.specs.declared.grounds.Refusal.{Refusal}
-use Rattle.recipe.specs.declared.grounds.Refusal.TheVariants.{TooMany, OtherCounts, UnfitTable}
+use Rattle.recipe.specs.declared.grounds.Refusal.TheVariants.{TooMany, OtherCounts, UnfitTable, NotAnEdge, EdgeHeld, EdgesFull, InquiryFull, NotUnsafe, LongTrace}
 use Rattle.inquiry.specs.declared.Counts.{Counts}
+use Rattle.inquiry.specs.Inquiries.{state_of}
 use Rattle.inquiry.specs.declared.Inquiry.{Inquiry}
 use Rattle.inquiry.specs.declared.Opening.{Opening}
 use Rattle.inquiry.specs.declared.reports.Dug.{Dug}
@@ -62,6 +66,31 @@ dig_answer i X edges = void_or i.fits (cond (counts_fit X.rule.values X.watch.st
 -- a dig answers how many facts it finished, and how many are held
 abbrev pub dug_from : Search → Search → Dug
 dug_from before after = record { finished = after.worked - before.worked; held = length after.rows }
+
+-- whether a link is allowed among the edges in use of a table with so many places: it is an edge by the rules, none that counts, a place is free, and the inquiry is not full
+abbrev pub link_allowed : Program → List Edge → ℕ → Bool → Edge → Allowed
+link_allowed p used places full e =
+    cond (is_edge p e) (cond (is_listed (counted p used) e) (Err EdgeHeld) (cond (nat_lt (length used) places) (cond full (Err InquiryFull) (Ok tt)) (Err EdgesFull))) (Err NotAnEdge)
+
+-- a link is refused first as a dig is
+abbrev pub link_answer : Inquiry → Setting → List Edge → Bool → Edge → Allowed
+link_answer i X edges full e = void_or (dig_answer i X (length edges)) (link_allowed X.program (in_use i edges) (length edges) full e)
+
+-- how long the trace of the first bad fact is, held
+abbrev pub trace_length : Watch → Search → ℕ
+trace_length W s = hold (length (first_trace W s.rows))
+
+-- whether that trace is written to an output of so many places: a fact is bad, and the output is long enough for it and its length is not the greatest that is told
+abbrev pub trace_allowed : Watch → Search → ℕ → Allowed
+trace_allowed W s room = cond (any_bad W s.rows) (cond (nat_le (trace_length W s) room && nat_lt (trace_length W s) 4294967295) (Ok tt) (Err (LongTrace (trace_length W s)))) (Err NotUnsafe)
+
+-- a void inquiry refuses a trace as it does every call
+abbrev pub trace_answer : Inquiry → Watch → ℕ → Allowed
+trace_answer i W room = void_or i.fits (trace_allowed W (state_of i) room)
+
+-- an output with the trace at its beginning
+abbrev pub trace_output : Watch → Search → List ℕ → List ℕ
+trace_output W s out = first_trace W s.rows ++ drop (length (first_trace W s.rows)) out
 
 -- a closed inquiry answers its verdict, and how many facts are held and worked
 abbrev pub report_of : Watch → Search → Report

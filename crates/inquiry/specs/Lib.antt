@@ -1,3 +1,4 @@
 pub mod Calls
 pub mod Inquiries
 pub mod Promises
+pub mod Shapes

@@ -1,6 +1,6 @@
 // The verdict, and the end of an inquiry.
 ghost use Rattle.std.specs.Prelude.{◌≡◌, IfOk};
-ghost use Rattle.model.specs.Tables.{any_bad, verdict_of};
+ghost use Rattle.model.specs.Tables.{verdict_of};
 ghost use Rattle.inquiry.specs.Calls.{answered, report_of};
 ghost use Rattle.inquiry.specs.Inquiries.{state_of};
 ghost use Rattle.inquiry.specs.Promises.{Right};
@@ -11,20 +11,11 @@ use recipe::Refusal;
 use rules::Watch;
 
 impl Inquiry<'_> {
-    // Whether a held fact is bad.
-    fn any_bad<W: Watch>(&self, watch: &W) -> bool
-        ensures { result ≡ any_bad (W.watching watch.now) (state_of self.now).rows }
-    {
-        self.facts[..self.held]
-            .iter()
-            .any(|fact| watch.bad(fact.state))
-    }
-
     // What the facts that are held say.
     fn judge<W: Watch>(&self, watch: &W) -> Verdict
         ensures { result ≡ verdict_of (W.watching watch.now) (state_of self.now) }
     {
-        if self.any_bad(watch) {
+        if self.first_bad(watch).is_some() {
             Verdict::Unsafe
         } else if self.full {
             Verdict::Full

@@ -14,7 +14,7 @@ use rules::{AccessRule, Subject, Watch};
 
 impl Inquiry<'_> {
     // Whether a dig may begin: the tables fitted at the opening, and the counts are not too great and those of the opening.
-    fn may_dig<R: AccessRule, W: Watch>(
+    pub(crate) fn may_dig<R: AccessRule, W: Watch>(
         &self,
         on: &Subject<R, W>,
         edges: &[Edge],

@@ -1,7 +1,9 @@
 // An inquiry digs for facts until they give a verdict.
 #![tactic(auto)]
 
-ghost use Rattle.std.specs.Prelude.{◌≤◌, length};
+ghost use Rattle.std.specs.Prelude.{◌≡◌, ℕ, ◌<◌, ◌≤◌, Ok, length, take};
+ghost use Rattle.model.specs.Tables.{row_at};
+ghost use Rattle.inquiry.specs.Shapes.{Hangs};
 
 mod closing;
 mod digging;
@@ -9,12 +11,14 @@ mod fitting;
 mod inquiring;
 mod joining;
 mod leading;
+mod linking;
 mod offering;
 mod opens;
 mod placed;
 mod reports;
 mod rows;
 mod scene;
+mod tracing;
 mod working;
 
 pub use fitting::fit;
@@ -55,5 +59,6 @@ pub struct Inquiry<'t> {
     ghost within: { held ≤ places },
     ghost some: { worked ≤ held },
     ghost used: { opening.used ≤ opening.counts.places },
-    ghost few_used: { opening.used ≤ 4096 },
+    ghost few_places: { fits ≡ Ok tt → opening.counts.places ≤ 4096 },
+    ghost hangs: { (i : ℕ) → i < held → Hangs (take i facts.now) (row_at facts.now i) },
 }

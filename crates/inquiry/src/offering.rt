@@ -1,9 +1,10 @@
 // Offers a fact to the table.
-ghost use Rattle.std.specs.Prelude.{◌≡◌, ◌<◌, true, List, length, is_some, IfSome};
-ghost use Rattle.std.specs.Iterator.{IsFinite, Drains};
+ghost use Rattle.std.specs.Prelude.{◌≡◌, ◌<◌, true, List, length, Some, is_some, IfSome};
+ghost use Rattle.std.specs.Iterator.{IsFinite, Drains, Yields};
 ghost use Rattle.model.specs.declared.Fact.{Fact};
 ghost use Rattle.model.specs.Tables.{is_held, same_fact, row_at, offer, offer_all};
 ghost use Rattle.inquiry.specs.Inquiries.{state_of, Grown};
+ghost use Rattle.inquiry.specs.Shapes.{Hangs};
 
 use crate::Inquiry;
 use model::Fact;
@@ -28,6 +29,7 @@ impl Inquiry<'_> {
 
     // Puts a fact behind the last, unless it is held; where there is no place for it the table is full for good.
     pub(crate) fn offer(&mut self, fact: Fact)
+        requires { Hangs (state_of self.old).rows fact }
         ensures state { state_of self.new ≡ offer self.old.places (state_of self.old) fact }
         ensures grown { Grown self.old self.new }
     {
@@ -47,6 +49,7 @@ impl Inquiry<'_> {
     pub(crate) fn offer_each<I: Iterator<Item = Fact> + Drop>(&mut self, rows: I)
         requires can { I.can_next rows }
         requires ends { IsFinite (I.remaining rows) }
+        requires hang { (fs : List Fact) (f : Fact) (s t : I) → Yields I.next_gives rows fs s → I.next_gives s (Some f) t → Hangs (state_of self.old).rows f }
         ensures state { (all : List Fact) × Drains I.next_gives rows all × (state_of self.new ≡ offer_all self.old.places (state_of self.old) all) }
         ensures grown { Grown self.old self.new }
     {

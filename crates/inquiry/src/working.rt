@@ -2,7 +2,7 @@
 ghost use Rattle.std.specs.Prelude.{◌≡◌, ◌<◌};
 ghost use Rattle.model.specs.Facts.{kind_at};
 ghost use Rattle.model.specs.Tables.{offer_all, follows, enters, backs, each_from, return_at, call_at, offers_by, end_of, work, dug, firsts};
-ghost use Rattle.inquiry.specs.Inquiries.{state_of, Grown, scene_of};
+ghost use Rattle.inquiry.specs.Inquiries.{state_of, IsRow, Grown, scene_of};
 
 use crate::Inquiry;
 use crate::placed::Placed;
@@ -13,6 +13,7 @@ use rules::{AccessRule, Watch};
 impl Inquiry<'_> {
     // Rule 2: along each edge of a fact's node.
     fn follow<R: AccessRule, W: Watch>(&mut self, scene: &Scene<R, W>, from: Placed)
+        requires { IsRow self.old from }
         ensures state { state_of self.new ≡ offer_all self.old.places (state_of self.old) (follows (scene_of R.meaning W.watching scene.now) from.at from.fact) }
         ensures grown { Grown self.old self.new }
     {
@@ -25,6 +26,7 @@ impl Inquiry<'_> {
 
     // Rule 3: into each entry of the callee.
     fn enter<R: AccessRule, W: Watch>(&mut self, scene: &Scene<R, W>, call: Placed, callee: u32)
+        requires { IsRow self.old call }
         ensures state { state_of self.new ≡ offer_all self.old.places (state_of self.old) (enters (scene_of R.meaning W.watching scene.now) callee call.at call.fact) }
         ensures grown { Grown self.old self.new }
     {
@@ -43,6 +45,8 @@ impl Inquiry<'_> {
         call: Placed,
         back: Placed,
     )
+        requires call { IsRow self.old call }
+        requires back { IsRow self.old back }
         ensures state { state_of self.new ≡ offer_all self.old.places (state_of self.old) (backs (scene_of R.meaning W.watching scene.now) call.at call.fact back.at back.fact) }
         ensures grown { Grown self.old self.new }
     {
@@ -58,7 +62,7 @@ impl Inquiry<'_> {
 
     // Rule 4 at a call: with each earlier return fact that goes together with it.
     fn join_returns<R: AccessRule, W: Watch>(&mut self, scene: &Scene<R, W>, call: Placed)
-        requires { call.at < self.old.held }
+        requires { IsRow self.old call }
         ensures state { state_of self.new ≡ offer_all self.old.places (state_of self.old) (each_from 0 call.at (return_at (scene_of R.meaning W.watching scene.now) (state_of self.old).rows call.at call.fact)) }
         ensures grown { Grown self.old self.new }
     {
@@ -72,7 +76,7 @@ impl Inquiry<'_> {
 
     // Rule 4 at a return: with each earlier call fact that goes together with it.
     fn join_calls<R: AccessRule, W: Watch>(&mut self, scene: &Scene<R, W>, back: Placed)
-        requires { back.at < self.old.held }
+        requires { IsRow self.old back }
         ensures state { state_of self.new ≡ offer_all self.old.places (state_of self.old) (each_from 0 back.at (call_at (scene_of R.meaning W.watching scene.now) (state_of self.old).rows back.at back.fact)) }
         ensures grown { Grown self.old self.new }
     {
@@ -86,7 +90,7 @@ impl Inquiry<'_> {
 
     // Offers what the rules make of a fact, as its node's kind has it.
     fn apply<R: AccessRule, W: Watch>(&mut self, scene: &Scene<R, W>, own: Placed)
-        requires { own.at < self.old.held }
+        requires { IsRow self.old own }
         ensures state { state_of self.new ≡ offer_all self.old.places (state_of self.old) (offers_by (scene_of R.meaning W.watching scene.now) (state_of self.old).rows own.at own.fact (kind_at (scene_of R.meaning W.watching scene.now) (end_of own.fact))) }
         ensures grown { Grown self.old self.new }
     {

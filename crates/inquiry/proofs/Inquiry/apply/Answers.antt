@@ -18,7 +18,7 @@ pub returns-in-Call : goal.returns-in-Call
 returns-in-Call g c =
     let X = scene_of g.R.AccessRule.meaning g.W.Watch.watching c.args.scene.now in
     let own = c.args.own in
-    let held : own.at < c.args.self.now.held = c.requires in
+    let held : own.at < c.args.self.now.held = c.requires.0 in
     record {
       state = called X c.join_returns.new.self own.at own.fact c.in-Call.callee _ _ (omega arith) (ap (λ (n : Node). n.kind) (sym c.node_at.ensures) ∙ c.in-Call.is) c.enter.ensures.state c.enter.ensures.grown c.join_returns.ensures.state;
       grown = grown_again c.enter.ensures.grown c.join_returns.ensures.grown;

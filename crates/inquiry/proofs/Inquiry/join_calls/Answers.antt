@@ -2,6 +2,7 @@ use Rattle.std.proofs.Common.{◌+◌, ◌<◌, ◌++◌, ap, ◌∙◌, arith}
 use Rattle.model.specs.Tables.{each_from, call_at, backs, row_at}
 use Rattle.inquiry.specs.Inquiries.{scene_of, state_of}
 use Rattle.inquiry.proofs.Growing.{going_some, going_on, going_end, each_first, each_none, no_call, a_call}
+use Rattle.inquiry.proofs.Hanging.{row_later}
 use Rattle.inquiry.proofs.Inquiry.join_calls.Goals as goal
 
 pub loop-at-preserved : goal.loop-at-preserved
@@ -14,7 +15,7 @@ loop-at-preserved g c =
     let at = c.in-Some.at in
     let found = c.in-Some.ensures in
     let grown = c.loop-at.invariant.grown in
-    let held : own.at < b.held = c.requires in
+    let held : own.at < b.held = c.requires.0 in
     let lt : at < own.at = found.1 in
     going_some (backs X at (row_at t.facts.now at) own.at own.fact) (each_from (at + 1) own.at f)
     (going_on (each_first c.loop-at.from at own.at f found.0 lt (λ k low high. no_call X grown own.at own.fact k (omega arith) (found.3 k low high))
@@ -27,8 +28,11 @@ returns g c =
     let b = c.args.self.now in
     let own = c.args.back in
     let grown = c.loop-at.invariant.grown in
-    let held : own.at < b.held = c.requires in
+    let held : own.at < b.held = c.requires.0 in
     record {
       state = going_end (going_on (each_none c.loop-at.from own.at (call_at X (state_of b).rows own.at own.fact) (λ k low high. no_call X grown own.at own.fact k (omega arith) (c.in_default.ensures k low high))) c.loop-at.invariant);
       grown = grown;
     }
+
+pub come_back-requires-clause-back : goal.come_back-requires-clause-back
+come_back-requires-clause-back g c = row_later c.args.back c.loop-at.invariant.grown c.requires

@@ -2,7 +2,8 @@ use Rattle.std.proofs.Common.{◌≡◌, suc, ◌+◌, ◌-◌, ◌<◌, sym, ap
 use Rattle.model.specs.Tables.{dug}
 use Rattle.inquiry.specs.Inquiries.{scene_of, state_of}
 use Rattle.inquiry.proofs.Growing.{grown_again}
-use Rattle.inquiry.proofs.Steps.{dug_none, dug_idle, dug_more, idle_full, idle_worked, busy}
+use Rattle.model.proofs.Verdicts.{dug_rests}
+use Rattle.inquiry.proofs.Steps.{dug_none, dug_more, idle_full, idle_worked, busy}
 use Rattle.inquiry.proofs.Inquiry.work_up_to.Goals as goal
 use Rattle.inquiry.proofs.Inquiry.work_up_to.Goals.{then-self-via-then-self, then-self-via-else-self+then-self-2}
 
@@ -27,8 +28,8 @@ returns-then-self g c =
     let left = c.args.allowed - c.loop-turn._turn in
     record {
       state = elim c.then-self.branch [
-        | then-self-via-then-self w ↦ sym (dug_idle X t.places (state_of t) left (idle_full t w.if-self.true)) ∙ c.loop-turn.invariant.0
-        | then-self-via-else-self+then-self-2 w ↦ sym (dug_idle X t.places (state_of t) left (idle_worked t w.if-self-2.true)) ∙ c.loop-turn.invariant.0
+        | then-self-via-then-self w ↦ sym (dug_rests X t.places left (state_of t) (idle_full t w.if-self.true)) ∙ c.loop-turn.invariant.0
+        | then-self-via-else-self+then-self-2 w ↦ sym (dug_rests X t.places left (state_of t) (idle_worked t w.if-self-2.true)) ∙ c.loop-turn.invariant.0
       ];
       grown = c.loop-turn.invariant.1;
     }

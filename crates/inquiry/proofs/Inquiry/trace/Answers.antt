@@ -1,0 +1,25 @@
+use Rattle.std.proofs.Common.{◌≡◌, length, sym, ap, ◌∙◌, arith}
+use Rattle.model.specs.Tables.{hold}
+use Rattle.inquiry.specs.Calls.{unless, trace_length, trace_output}
+use Rattle.inquiry.specs.Inquiries.{state_of}
+use Rattle.inquiry.proofs.Showing.{trace_long, trace_written, trace_may, trace_bad}
+use Rattle.inquiry.proofs.Inquiry.trace.Goals as goal
+
+pub returns-clause-output : goal.returns-clause-output
+returns-clause-output g c =
+    let t = c.args.self.now in
+    let W = g.W.Watch.watching c.args.watch.now in
+    let out = c.args.out.now in
+    let first = c.in-Some.ensures in
+    let long : c.trace_length-length.result ≡ trace_length W (state_of t) = c.trace_length-length.ensures ∙ ap hold (trace_long W (state_of t).rows c.in-Some.at first.1) in
+    let may = trace_may W t (c.in_ok-self.was) first.0 (length out) (omega (arith, c.if-length-out.false)) (omega (arith, c.if-length.false)) in
+    trace_written W (state_of t).rows c.in-Some.at first.1 out c.write_trace.new.out c.write_trace.ensures ∙ ap (λ o. unless o (trace_output W (state_of t) out) out) (sym may)
+
+pub returns-clause-bad : goal.returns-clause-bad
+returns-clause-bad g c =
+    let t = c.args.self.now in
+    let W = g.W.Watch.watching c.args.watch.now in
+    let first = c.in-Some.ensures in
+    let whole = trace_long W (state_of t).rows c.in-Some.at first.1 in
+    trace_bad W t (c.in_ok-self.was) first.0 c.trace_length-length.result c.args.out.now c.write_trace.new.out (omega (arith, c.trace_length-length.ensures, c.if-length.false))
+    (trace_written W (state_of t).rows c.in-Some.at first.1 c.args.out.now c.write_trace.new.out c.write_trace.ensures)
