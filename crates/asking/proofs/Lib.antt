@@ -1,0 +1,13 @@
+pub mod Allowing
+pub mod Anew
+pub mod Carrying
+pub mod Clauses
+pub mod Ending
+pub mod Going
+pub mod Judging
+pub mod Keeping
+pub mod Lasting
+pub mod Making
+pub mod Moving
+pub mod Showing
+pub mod Telling

@@ -1,0 +1,5 @@
+pub mod Asked
+pub mod Histories
+pub mod Law
+pub mod Made
+pub mod Recorded
