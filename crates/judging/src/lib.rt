@@ -8,10 +8,19 @@ mod showing;
 pub use deciding::judge;
 pub use errors::JudgeError;
 use inquiry::Report;
+use recipe::Refusal;
+use std::alloc::Global;
 
-// What a legal file comes to: what the inquiry reports under each rule.
+// What an inquiry under one rule comes to: its report, and the trace of the first bad fact, or why there is none.
+#[derive(Drop)]
+pub struct Finding {
+    pub report: Report,
+    pub trace: Result<Vec<u32>, Refusal>,
+}
+
+// What a legal file comes to under each rule.
 #[derive(Drop)]
 pub struct Judgement {
-    pub history: Report,
-    pub stack: Report,
+    pub history: Finding,
+    pub stack: Finding,
 }

@@ -1,17 +1,28 @@
 // What a judgement looks like.
-use crate::Judgement;
-use inquiry::Report;
+use crate::{Finding, Judgement};
+use recipe::Refusal;
 use std::fmt;
 
-// What one rule comes to, as a line.
+// What one rule comes to, as a line: with the trace, or how long it is.
 fn write_line<W: fmt::Write>(
     f: &mut fmt::Formatter<W>,
     rule: &str,
-    report: &Report,
+    finding: &Finding,
 ) -> fmt::Result {
-    let verdict = report.verdict;
-    let held = report.held;
-    write!(f, "{rule} {verdict} facts {held}")
+    let verdict = finding.report.verdict;
+    let held = finding.report.held;
+    write!(f, "{rule} {verdict} facts {held}")?;
+    match &finding.trace {
+        Ok(nodes) => {
+            f.write_str(" trace")?;
+            for node in nodes {
+                write!(f, " {node}")?;
+            }
+            Ok(())
+        }
+        Err(Refusal::LongTrace { length }) => write!(f, " long {length}"),
+        Err(_) => Ok(()),
+    }
 }
 
 // A line for each rule.
