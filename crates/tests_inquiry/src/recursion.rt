@@ -1,19 +1,12 @@
 // Recipes that call themselves, and several entries: the facts were worked out by hand.
+use crate::made::{CALL_MAIN, Made, file};
 use crate::tables::{Row, all_worked, check_report, check_rows};
 use inquiry::Verdict;
-use model::{Method, Node};
+use model::Method;
 use recipe::{Edge, Kind, recipe_of};
 use rules::{History, StackInspection, Subject, WallWatch};
-use samples::building::{CALL, Parts};
-use std::alloc::{AllocError, Global};
+use samples::building::CALL;
 use std::test::Fail;
-
-const CALL_MAIN: Kind = Kind::Call {
-    callee: 0,
-    grant: 0,
-    accept: 0,
-    privileged: false,
-};
 
 // Takes right 1 back under history, whatever the callee went through.
 const CALL_ACCEPTING: Kind = Kind::Call {
@@ -22,9 +15,6 @@ const CALL_ACCEPTING: Kind = Kind::Call {
     accept: 2,
     privileged: false,
 };
-
-// A node's kind, mark, and whether it is an entry: a node in one line.
-type Made = (Kind, u32, bool);
 
 // Main goes from its entry to its end, or calls itself first.
 static SELF_METHODS: [Method; 1] = [Method {
@@ -99,29 +89,9 @@ static TWO_ROWS: [Row; 13] = [
     [1, 3, 0, 3, 3, 3, 2, 10, 0, 5],
 ];
 
-// The file of a recipe with no rows.
-fn file(
-    heap: Global,
-    methods: &[Method],
-    made: &[Made],
-    edges: &[Edge],
-) -> Result<Vec<u8>, AllocError> {
-    let nodes: Vec<Node> = made
-        .iter()
-        .map(|&(kind, mark, entry)| Node { kind, mark, entry })
-        .collect(heap)?;
-    let parts = Parts {
-        methods,
-        nodes: &nodes,
-        edges,
-        rows: &[],
-    };
-    parts.file(heap)
-}
-
 #[test]
 fn main_calls_itself(rt: HostRuntime) -> Result<(), Fail> {
-    let file = file(rt.alloc(), &SELF_METHODS, &SELF_NODES, &SELF_EDGES)?;
+    let file = file(rt.alloc(), &SELF_METHODS, &SELF_NODES, &SELF_EDGES, &[])?;
     let recipe = &recipe_of(&file)?;
     let watch = &WallWatch { one: 1, two: 2 };
     let history = Subject {
@@ -142,7 +112,7 @@ fn main_calls_itself(rt: HostRuntime) -> Result<(), Fail> {
 
 #[test]
 fn entries_and_a_callee_that_calls_itself(rt: HostRuntime) -> Result<(), Fail> {
-    let file = file(rt.alloc(), &TWO_METHODS, &TWO_NODES, &TWO_EDGES)?;
+    let file = file(rt.alloc(), &TWO_METHODS, &TWO_NODES, &TWO_EDGES, &[])?;
     let recipe = &recipe_of(&file)?;
     let history = Subject {
         recipe,

@@ -23,6 +23,9 @@ pub const MARK: Fact = Fact {
 
 pub const MARK_EDGE: Edge = Edge { from: 911, to: 912 };
 
+// A place of an output that no trace was written to.
+pub const MARK_NODE: u32 = 913;
+
 // The ten numbers of a fact, in the order of its fields.
 pub type Row = [u32; 10];
 
@@ -83,6 +86,11 @@ pub fn first_rows(rows: &[Row], held: u32) -> Result<&[Row], &'static str> {
 // The table holds these edges first, and nothing was written past them.
 pub fn check_edges(rt: &impl Abort, edges: &[Edge], own: &[Edge]) {
     check_places(rt, edges, own, MARK_EDGE);
+}
+
+// The output begins with these nodes, and nothing was written past them.
+pub fn check_output(rt: &impl Abort, out: &[u32], nodes: &[u32]) {
+    check_places(rt, out, nodes, MARK_NODE);
 }
 
 // The report of an inquiry that worked all facts that it held.
