@@ -1,5 +1,5 @@
 #!/bin/sh
-# Three programs that must not exist, each one edit away from one that does: an inquiry opened over a draft, one that is dug after its close, and one that is never closed.
+# Four programs that must not exist, each one edit away from one that does: an inquiry opened over a draft, one that is dug after its close, one that is linked after it, and one that is never closed.
 # The compiler refuses them before there is anything to prove, so they cannot be must-fail edits, which the prover has to refuse.
 # Usage: tools/refused.sh, in the repository; it works in a copy of it.
 set -eu
@@ -32,6 +32,9 @@ expects 'opened over a draft' 'error\[mismatched-types\]'
 
 sed 's/    inquiry.close(on.watch)/    let report = inquiry.close(on.watch);\n    let _ = inquiry.dig(\&on, edges, 1);\n    report/' tools/refused/accepted.txt >crates/refused/src/lib.rt
 expects 'dug after its close' 'error\[borrow-e0382\]'
+
+sed 's/    inquiry.close(on.watch)/    let report = inquiry.close(on.watch);\n    let _ = inquiry.link(\&on, edges, Edge { from: 1, to: 2 });\n    report/' tools/refused/accepted.txt >crates/refused/src/lib.rt
+expects 'linked after its close' 'error\[borrow-e0382\]'
 
 sed 's/    inquiry.close(on.watch)/    Err(Refusal::TooMany)/' tools/refused/accepted.txt >crates/refused/src/lib.rt
 expects 'never closed' 'error\[linear-value-let-go\]'
