@@ -39,7 +39,7 @@ fn row(number: u8) -> [u8; 32] {
 
 impl Ring {
     // A ring of so many nodes and entries, without calls and with them.
-    pub fn both(nodes: u32, entries: u32) -> [Ring; 2] {
+    pub(crate) fn both(nodes: u32, entries: u32) -> [Ring; 2] {
         [false, true].map(|calls| Ring {
             nodes,
             entries,
@@ -70,7 +70,7 @@ impl Ring {
     }
 
     // The file of the recipe.
-    pub fn file(&self, heap: Global) -> Result<Vec<u8>, AllocError> {
+    pub(crate) fn file(&self, heap: Global) -> Result<Vec<u8>, AllocError> {
         let mut nodes: Vec<Node> = (0..self.nodes).map(|n| self.node(n)).collect(heap)?;
         nodes.push(CALLEE)?;
         let edges: Vec<Edge> = (0..self.nodes).map(|n| self.edge(n)).collect(heap)?;

@@ -12,15 +12,15 @@ use std::test::Fail;
 pub const MARK: Result<Reply, Refusal> = Ok(Reply::Linked { edges: 999 });
 
 // What a dig answers that finished so many facts, and then held so many.
-pub fn dug(finished: u32, held: u32) -> Result<Reply, Refusal> {
+pub(crate) fn dug(finished: u32, held: u32) -> Result<Reply, Refusal> {
     Ok(Reply::Dug(Dug { finished, held }))
 }
 
-pub fn judged(verdict: Verdict) -> Result<Reply, Refusal> {
+pub(crate) fn judged(verdict: Verdict) -> Result<Reply, Refusal> {
     Ok(Reply::Judged(verdict))
 }
 
-pub fn report(verdict: Verdict, held: u32, worked: u32) -> Report {
+pub(crate) fn report(verdict: Verdict, held: u32, worked: u32) -> Report {
     Report {
         verdict,
         held,
@@ -44,7 +44,7 @@ pub struct Lent {
 pub const MARK_NODE: u32 = 777;
 
 // Makes the requests of recipe A under a rule, in nine places for facts, six for edges and six for nodes, with so many places for replies; checks each reply, and that no other place of the replies was written.
-pub fn check_asked<R: AccessRule>(
+pub(crate) fn check_asked<R: AccessRule>(
     rt: &(impl Abort + AllocGlobal),
     file: &[u8],
     rule: &R,

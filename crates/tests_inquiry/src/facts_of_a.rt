@@ -27,12 +27,12 @@ static STACK: [Row; 7] = [
 ];
 
 // The rows under history: handed out by a function, so that a proof of a test does not have to carry each of them.
-pub fn history_rows() -> &'static [Row] {
+pub(crate) fn history_rows() -> &'static [Row] {
     &HISTORY
 }
 
 // The rows under stack inspection.
-pub fn stack_rows() -> &'static [Row] {
+pub(crate) fn stack_rows() -> &'static [Row] {
     &STACK
 }
 

@@ -15,7 +15,7 @@ pub const CALL_MAIN: Kind = Kind::Call {
 pub type Made = (Kind, u32, bool);
 
 // The file of a recipe.
-pub fn file(
+pub(crate) fn file(
     heap: Global,
     methods: &[Method],
     made: &[Made],

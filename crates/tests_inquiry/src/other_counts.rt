@@ -13,7 +13,7 @@ use std::alloc::{AllocError, Global};
 use std::test::Fail;
 
 // Recipe A with a node more in its last method.
-pub fn one_node_more(heap: Global) -> Result<Vec<u8>, AllocError> {
+pub(crate) fn one_node_more(heap: Global) -> Result<Vec<u8>, AllocError> {
     let a = recipe_a::parts();
     let mut methods = a.methods.to_vec(heap)?;
     if let Some(last) = methods.last_mut() {

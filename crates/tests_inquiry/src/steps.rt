@@ -40,7 +40,7 @@ impl Step {
 }
 
 // Opens, takes the steps, asks for the trace, and closes.
-pub fn taken<R: AccessRule, W: Watch>(
+pub(crate) fn taken<R: AccessRule, W: Watch>(
     rt: &impl Abort,
     on: &Subject<R, W>,
     tables: &mut Tables,
@@ -60,7 +60,7 @@ pub fn taken<R: AccessRule, W: Watch>(
 }
 
 // The nodes are those of a bad run: over the edges in use, and over the whole table, of whose other places no edge counts.
-pub fn check_walked<R: AccessRule, W: Watch>(
+pub(crate) fn check_walked<R: AccessRule, W: Watch>(
     rt: &(impl Abort + AllocGlobal),
     on: &Subject<R, W>,
     edges: &[Edge],

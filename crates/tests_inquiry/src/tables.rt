@@ -67,7 +67,7 @@ fn check_places<T: Copy + PartialEq + Debug>(rt: &impl Abort, table: &[T], front
 }
 
 // The rows stand in the first places, and nothing was written past them.
-pub fn check_facts(
+pub(crate) fn check_facts(
     rt: &(impl Abort + AllocGlobal),
     facts: &[Fact],
     rows: &[Row],
@@ -78,23 +78,23 @@ pub fn check_facts(
 }
 
 // So many of the first rows.
-pub fn first_rows(rows: &[Row], held: u32) -> Result<&[Row], &'static str> {
+pub(crate) fn first_rows(rows: &[Row], held: u32) -> Result<&[Row], &'static str> {
     rows.get(..held as usize)
         .ok_or("more facts are held than there are rows")
 }
 
 // The table holds these edges first, and nothing was written past them.
-pub fn check_edges(rt: &impl Abort, edges: &[Edge], own: &[Edge]) {
+pub(crate) fn check_edges(rt: &impl Abort, edges: &[Edge], own: &[Edge]) {
     check_places(rt, edges, own, MARK_EDGE);
 }
 
 // The output begins with these nodes, and nothing was written past them.
-pub fn check_output(rt: &impl Abort, out: &[u32], nodes: &[u32]) {
+pub(crate) fn check_output(rt: &impl Abort, out: &[u32], nodes: &[u32]) {
     check_places(rt, out, nodes, MARK_NODE);
 }
 
 // The report of an inquiry that worked all facts that it held.
-pub fn all_worked(verdict: Verdict, facts: u32) -> Report {
+pub(crate) fn all_worked(verdict: Verdict, facts: u32) -> Report {
     Report {
         verdict,
         held: facts,
@@ -111,7 +111,7 @@ pub struct Tables {
 
 impl Tables {
     // So many places for facts and for edges, each of them marked.
-    pub fn marked(heap: Global, facts: usize, edges: usize) -> Result<Tables, AllocError> {
+    pub(crate) fn marked(heap: Global, facts: usize, edges: usize) -> Result<Tables, AllocError> {
         Ok(Tables {
             facts: vec![in heap; MARK; facts]?,
             edges: vec![in heap; MARK_EDGE; edges]?,
@@ -134,7 +134,7 @@ fn reported<R: AccessRule, W: Watch>(
 }
 
 // The report of an inquiry in so many places, and the rows that it finds, of which as many are held as the report says.
-pub fn check_rows<R: AccessRule, W: Watch>(
+pub(crate) fn check_rows<R: AccessRule, W: Watch>(
     rt: &(impl Abort + AllocGlobal),
     on: &Subject<R, W>,
     places: usize,
@@ -148,7 +148,7 @@ pub fn check_rows<R: AccessRule, W: Watch>(
 }
 
 // The report alone, in enough places, where the rows were not worked out.
-pub fn check_report<R: AccessRule, W: Watch>(
+pub(crate) fn check_report<R: AccessRule, W: Watch>(
     rt: &(impl Abort + AllocGlobal),
     on: &Subject<R, W>,
     expected: Report,

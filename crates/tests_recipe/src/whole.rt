@@ -9,7 +9,7 @@ use std::test::Fail;
 pub const LONGEST: usize = 26128;
 
 // What a recipe writes with the edges of a list, where there is room for any file.
-pub fn written(heap: Global, recipe: &Recipe, edges: &[Edge]) -> Result<Vec<u8>, Fail> {
+pub(crate) fn written(heap: Global, recipe: &Recipe, edges: &[Edge]) -> Result<Vec<u8>, Fail> {
     let mut out = vec![in heap; 0; LONGEST]?;
     let len = recipe::write(recipe, edges, &mut out)?;
     out.truncate(len);
@@ -17,7 +17,7 @@ pub fn written(heap: Global, recipe: &Recipe, edges: &[Edge]) -> Result<Vec<u8>,
 }
 
 // A recipe writes this file with its own edges.
-pub fn check_written_back(
+pub(crate) fn check_written_back(
     rt: &(impl Abort + AllocGlobal),
     recipe: &Recipe,
     file: &[u8],

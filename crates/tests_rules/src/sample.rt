@@ -68,7 +68,7 @@ static NODES: [Node; 7] = [
 static EDGES: [Edge; 1] = [Edge { from: 0, to: 1 }];
 
 // What its file is made of; it has no rows.
-pub fn parts() -> Parts<'static> {
+pub(crate) fn parts() -> Parts<'static> {
     Parts {
         methods: &METHODS,
         nodes: &NODES,
