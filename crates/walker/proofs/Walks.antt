@@ -16,8 +16,8 @@ use Rattle.model.proofs.Determined.{follows_from_trace}
 use Rattle.recipe.specs.declared.grounds.Refusal.{Refusal}
 use Rattle.recipe.specs.declared.grounds.Refusal.TheVariants.{Misplaced, Miscounted, BadMethod, BadNode, BadEdge, BadRow, TooMany, OtherCounts, UnfitTable, NotAnEdge, EdgeHeld, EdgesFull, InquiryFull, NotUnsafe, LongTrace, NotAStep, StackFull, ShortOutput}
 use Rattle.walker.specs.declared.stands.Stand.{Stand}
-use Rattle.walker.specs.Accepted.{frames_in, Stands, Refuses, Enough}
-use Rattle.walker.specs.Walking.{no_frame, leads, step_by, step_from, step_first, step_answer, step_stack, stand_at, Walked, advance_by, replay_from, begun, replayed}
+use Rattle.walker.specs.Accepted.{frames_in, Stands, StandsAt, Refuses, Enough}
+use Rattle.walker.specs.Walking.{no_frame, leads, step_by, step_from, step_first, step_answer, step_stack, stand_at, placed, Walked, advance_by, replay_from, begun, replayed}
 
 -- the test for an edge says what it should
 pub leads_decides : (es : List Edge) (a b : ℕ) → Decides (leads es a b) (Leads es a b)
@@ -241,7 +241,9 @@ module _ (p : Program) (es : List Edge) (R : Rule) (W : Watch) where
             let low : 1 ≤ s.0 = h.0 in
             let near : s.0 ≤ d + 1 = h.1 in
             let l = leb-false s.0 (length stack) e in
-            let k = frames_length stack (s.0 - 1) (omega arith) in (
+            let k = frames_length stack (s.0 - 1) (omega arith) in
+            let n = ap length (sym split) ∙ length-append front (m ∷ ms) in (
+              omega arith,
               s.1 ∷ frames_in stack (s.0 - 1),
               W.step q (reads p m),
               subst (λ t. Run p es R W t (s.1 ∷ frames_in stack (s.0 - 1)) (W.step q (reads p m))) (sym (ap reverse cut_after ∙ reverse_push front m)) h.2,
@@ -284,6 +286,36 @@ module _ (p : Program) (es : List Edge) (R : Rule) (W : Watch) where
       rest_told ms (m ∷ ms) (m ∷ []) 1 (begun p R W m stack) (length stack) refl refl (stack_kept (step_first p R m) stack)
       (after (m ∷ ms) [] ms m 0 refl refl stack 0 W.start (omega arith) (λ l. absurd (omega arith)) (step_first p R m) (first_goes stack m))
 
+  -- a step's answer says its place, which a list sets
+  at_place : (o : Option (ℕ × Frame)) (room q m place : ℕ) (P : Stand → Type 0) (Q : Refusal → Type 0) → MatchResult (step_answer p W o room q m place) P Q → MatchResult (step_answer p W o room q m 0) P (λ e. Q (placed e place))
+  at_place None room q m place P Q h = h
+  at_place (Some s) room q m place P Q h = by (leb s.0 room) h
+    where
+      by : (b : Bool) → MatchResult (cond b (Ok (stand_at W s.0 s.1 (W.step q (reads p m)))) (Err (StackFull place))) P Q
+          → MatchResult (cond b (Ok (stand_at W s.0 s.1 (W.step q (reads p m)))) (Err (StackFull 0))) P (λ e. Q (placed e place))
+      by true h = h
+      by false h = h
+
+  -- an answer and a stack that are those of the first step, and of a step from where a run stands
+  pub first_told : (m : ℕ) (stack last : List Frame) (a : Result Stand Refusal) → a ≡ step_answer p W (step_first p R m) (length stack) W.start m 0 → last ≡ step_stack (step_first p R m) stack
+      → MatchResult a (Stands p es R W (m ∷ []) last) (Refuses p es R W (m ∷ []) (length stack))
+  first_told m stack last a answer frames =
+      subst (λ b. MatchResult b (Stands p es R W (m ∷ []) last) (Refuses p es R W (m ∷ []) (length stack))) (sym answer)
+      (subst (λ fs. MatchResult (step_answer p W (step_first p R m) (length stack) W.start m 0) (Stands p es R W (m ∷ []) fs) (Refuses p es R W (m ∷ []) (length stack))) (sym frames)
+      (after (m ∷ []) [] [] m 0 refl refl stack 0 W.start (omega arith) (λ l. absurd (omega arith)) (step_first p R m) (first_goes stack m)))
+
+  pub step_told : (d q m : ℕ) (stack last : List Frame) (a : Result Stand Refusal) → a ≡ step_answer p W (step_from p es R stack d m) (length stack) q m 0 → last ≡ step_stack (step_from p es R stack d m) stack
+      → (ns : List ℕ) → StandsAt p es R W ns stack d q → MatchResult a (Stands p es R W (ns ++ m ∷ []) last) (λ e. Refuses p es R W (ns ++ m ∷ []) (length stack) (placed e (length ns)))
+  step_told d q m stack last a answer frames ns at =
+      let high : d ≤ length stack = at.1 in
+      let some = run_deep at.0 in
+      let k = frames_length stack d high in
+      subst (λ b. MatchResult b (Stands p es R W (ns ++ m ∷ []) last) (λ e. Refuses p es R W (ns ++ m ∷ []) (length stack) (placed e (length ns)))) (sym answer)
+      (subst (λ fs. MatchResult (step_answer p W (step_from p es R stack d m) (length stack) q m 0) (Stands p es R W (ns ++ m ∷ []) fs) (λ e. Refuses p es R W (ns ++ m ∷ []) (length stack) (placed e (length ns)))) (sym frames)
+      (at_place (step_from p es R stack d m) (length stack) q m (length ns) (Stands p es R W (ns ++ m ∷ []) (step_stack (step_from p es R stack d m) stack)) (Refuses p es R W (ns ++ m ∷ []) (length stack))
+      (after (ns ++ m ∷ []) ns [] m (length ns) refl refl stack d q high (λ _. (frames_in stack d, q, at.0)) (step_from p es R stack d m)
+      (step_goes stack d (omega arith) high (reverse ns) q at.0 m))))
+
   -- the nodes that a run came to first are the trace of a run
   shorter : (t u : List ℕ) (fs : List Frame) (q : ℕ) → 0 < length u → Run p es R W (t ++ u) fs q → (gs : List Frame) × (r : ℕ) × Run p es R W u gs r
   shorter [] u fs q l r = (fs, q, r)
@@ -307,8 +339,8 @@ module _ (p : Program) (es : List Edge) (R : Rule) (W : Watch) where
   decides ns room stack (Ok s) h enough = (λ _. (frames_in stack s.depth, s.state, h.run), λ _. refl)
   decides ns room stack (Err (NotAStep i)) h enough = (λ e. absurd (false≢true e), λ r. absurd (h.1 (trace_front ns i r)))
   decides ns room stack (Err (StackFull i)) h enough =
-      let a = enough (i + 1) h.0 h.1 h.2 in
-      let b : room < length h.0 = h.3 in
+      let a = enough (i + 1) h.1 h.2 h.3 in
+      let b : room < length h.1 = h.4 in
       absurd (omega arith)
   decides ns room stack (Err (Misplaced entry)) h enough = absurd h
   decides ns room stack (Err (Miscounted entry)) h enough = absurd h

@@ -23,10 +23,14 @@ pub record Stands (p : Program) (es : List Edge) (R : Rule) (W : Watch) (ns : Li
   pub top : s.value ≡ (slice_index_or stack (s.depth - 1) no_frame).value
   pub bad : s.bad ≡ W.bad s.state
 
--- not a step at place i: the nodes before it are the trace of a run, if there are any, and with it they are not. Stack full at place i: with it they are, and that run has more frames than the stack holds
+-- the frames up to a depth of a stack, and a state of the watch, are where a run with this trace stands
+abbrev pub StandsAt : Program → List Edge → Rule → Watch → List ℕ → List Frame → ℕ → ℕ → Type 0
+StandsAt p es R W ns stack depth q = Run p es R W (reverse ns) (frames_in stack depth) q × (depth ≤ length stack)
+
+-- not a step at place i: the nodes before it are the trace of a run, if there are any, and with it they are not. Stack full at place i of the list: with it they are, and that run has more frames than the stack holds
 abbrev pub Refuses : Program → List Edge → Rule → Watch → List ℕ → ℕ → Refusal → Type 0
 Refuses p es R W ns room (NotAStep i) = (0 < i → RunTrace p es R W (take i ns)) × (RunTrace p es R W (take (i + 1) ns) → ⊥)
-Refuses p es R W ns room (StackFull i) = (fs : List Frame) × (q : ℕ) × Run p es R W (reverse (take (i + 1) ns)) fs q × (room < length fs)
+Refuses p es R W ns room (StackFull i) = (i < length ns) × (fs : List Frame) × (q : ℕ) × Run p es R W (reverse (take (i + 1) ns)) fs q × (room < length fs)
 Refuses p es R W ns room (Misplaced entry) = ⊥
 Refuses p es R W ns room (Miscounted entry) = ⊥
 Refuses p es R W ns room (BadMethod method) = ⊥
