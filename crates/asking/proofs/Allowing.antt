@@ -5,7 +5,7 @@ use Rattle.model.specs.declared.Edge.{Edge}
 use Rattle.model.specs.Links.{is_listed, linked}
 use Rattle.model.specs.Program.{Program, is_edge, counted}
 use Rattle.model.specs.Searches.{first_trace, unworked}
-use Rattle.model.specs.Tables.{hold, Search, any_bad}
+use Rattle.model.specs.Tables.{capped, Search, any_bad}
 use Rattle.model.specs.Watches.{Watch}
 use Rattle.recipe.specs.declared.grounds.Refusal.{Refusal}
 use Rattle.recipe.specs.declared.grounds.Refusal.TheVariants.{NotAnEdge, EdgeHeld, EdgesFull, InquiryFull, NotUnsafe, LongTrace}
@@ -49,7 +49,7 @@ module _ (W : Watch) (s : Search) (room : ℕ) where
 
   -- a trace is refused for want of a bad fact, or for its length, or a fact is bad and it fits, and then its length is what is told
   pub trace_cases : (P : Allowed → Type 0) → (any_bad W s.rows ≡ true → length trace_of ≤ room → length trace_of < 4294967295 → trace_length W s ≡ length trace_of → P (Ok tt))
-      → (any_bad W s.rows ≡ true → (room < length trace_of) ⊎ (4294967295 ≤ length trace_of) → P (Err (LongTrace (hold (length trace_of))))) → (any_bad W s.rows ≡ false → P (Err NotUnsafe)) → P (trace_allowed W s room)
+      → (any_bad W s.rows ≡ true → (room < length trace_of) ⊎ (4294967295 ≤ length trace_of) → P (Err (LongTrace (capped (length trace_of))))) → (any_bad W s.rows ≡ false → P (Err NotUnsafe)) → P (trace_allowed W s room)
   trace_cases P fits long none =
       cond_both (any_bad W s.rows) _ (Err NotUnsafe) P
       (λ bad. cond_both (leb (trace_length W s) room && ltb (trace_length W s) 4294967295) (Ok tt) (Err (LongTrace (trace_length W s))) P

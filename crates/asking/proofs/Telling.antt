@@ -6,7 +6,7 @@ use Rattle.model.specs.declared.Verdict.TheVariants.{Safe, Unsafe, Full, Unfinis
 use Rattle.model.specs.Facts.{RunGoesBad}
 use Rattle.model.specs.Program.{counted}
 use Rattle.model.specs.Searches.{Different, BadTrace}
-use Rattle.model.specs.Tables.{hold}
+use Rattle.model.specs.Tables.{capped}
 use Rattle.recipe.specs.declared.grounds.Refusal.{Refusal}
 use Rattle.recipe.specs.declared.grounds.Refusal.TheVariants.{LongTrace}
 use Rattle.inquiry.specs.Calls.{answered, unless, trace_length}
@@ -135,7 +135,7 @@ module _ (C : Opened) (rs : List Request) (log rest : List (Result Reply Refusal
     between = take (j - i) (drop i rs)
 
     abbrev Tells : Type 0
-    Tells = ((reply_at log j ≡ Ok (Traced (length t))) × (take (length t) output ≡ t)) ⊎ (reply_at log j ≡ Err (LongTrace (hold (length t))))
+    Tells = ((reply_at log j ≡ Ok (Traced (length t))) × (take (length t) output ≡ t)) ⊎ (reply_at log j ≡ Err (LongTrace (capped (length t))))
 
     -- the reply there is that of a trace after the requests up to it
     trace_answer : reply_at log j ≡ asked C (before i ++ between) Trace
@@ -169,7 +169,7 @@ module _ (C : Opened) (rs : List Request) (log rest : List (Result Reply Refusal
   unsafe_shown : (i : ℕ) (lt : i < length rs) → reply_at log i ≡ Ok (Judged Unsafe)
       → (t : List ℕ) × BadTrace (linked_then C rs log i) t × Walks (linked_then C rs log i) t
       × ((j : ℕ) → i ≤ j → j < length rs → request_at rs j ≡ Trace
-      → ((reply_at log j ≡ Ok (Traced (length t))) × (take (length t) output ≡ t)) ⊎ (reply_at log j ≡ Err (LongTrace (hold (length t)))))
+      → ((reply_at log j ≡ Ok (Traced (length t))) × (take (length t) output ≡ t)) ⊎ (reply_at log j ≡ Err (LongTrace (capped (length t)))))
   unsafe_shown i lt e =
       let found = law.shown (before i) (replied i lt Unsafe e) in
       let then : linked_recipe C (before i ++ []) ≡ linked_then C rs log i = ap (linked_recipe C) (append-nil (before i)) ∙ sym (linked_is i lt) in

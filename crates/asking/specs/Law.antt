@@ -10,7 +10,7 @@ use Rattle.model.specs.Links.{Among}
 use Rattle.model.specs.Program.{EdgeRules, counted}
 use Rattle.model.specs.Runs.{Leads}
 use Rattle.model.specs.Searches.{HeldAt, Different, BadTrace, first_trace, facts_of}
-use Rattle.model.specs.Tables.{hold, row_at}
+use Rattle.model.specs.Tables.{capped, row_at}
 use Rattle.recipe.specs.declared.grounds.Refusal.{Refusal}
 use Rattle.recipe.specs.declared.grounds.Refusal.TheVariants.{NotUnsafe, LongTrace}
 use Rattle.walker.specs.declared.stands.Stand.{Stand}
@@ -40,11 +40,11 @@ Walks X t =
     (es : List Edge) (stack : List Frame) → Among es X.edges → Among X.edges es → Enough X.program es X.rule X.watch t (length stack)
     → (s : Stand) × ((replayed X.program es X.rule X.watch t stack).at ≡ Ok s) × (s.bad ≡ true)
 
--- a trace is written: it fits, its length is told, and the rest of the output is as it was; or it does not fit, or has 4,294,967,295 nodes or more, and it is refused with its length, held, and nothing is written
+-- a trace is written: it fits, its length is told, and the rest of the output is as it was; or it does not fit, or has 4,294,967,295 nodes or more, and it is refused with its length, capped, and nothing is written
 abbrev pub Written : List ℕ → Result Reply Refusal → List ℕ → List ℕ → Type 0
 Written t reply before later =
     ((reply ≡ Ok (Traced (length t))) × (length t ≤ length before) × (length t < 4294967295) × (later ≡ t ++ drop (length t) before))
-    ⊎ ((reply ≡ Err (LongTrace (hold (length t)))) × ((length before < length t) ⊎ (4294967295 ≤ length t)) × (later ≡ before))
+    ⊎ ((reply ≡ Err (LongTrace (capped (length t)))) × ((length before < length t) ⊎ (4294967295 ≤ length t)) × (later ≡ before))
 
 -- one list of nodes is shown from some requests on: it is the trace of the first bad fact and of a bad run, a walker accepts it, and whenever a trace is asked for this one is written, or refused with its length
 pub record Shown (C : Opened) (rs : List Request) (t : List ℕ) : Type 0 where

@@ -6,7 +6,7 @@ use Rattle.model.specs.declared.Verdict.TheVariants.{Safe, Unsafe, Full, Unfinis
 use Rattle.model.specs.Facts.{Setting, RunGoesBad}
 use Rattle.model.specs.Program.{counted}
 use Rattle.model.specs.Searches.{Different, BadTrace}
-use Rattle.model.specs.Tables.{hold}
+use Rattle.model.specs.Tables.{capped}
 use Rattle.recipe.specs.declared.grounds.Refusal.{Refusal}
 use Rattle.recipe.specs.declared.grounds.Refusal.TheVariants.{LongTrace}
 use Rattle.asking.specs.declared.requests.Reply.{Reply}
@@ -44,7 +44,7 @@ pub record RecordTells (C : Opened) (rs : List Request) (log : List (Result Repl
   pub shown : (i : ℕ) → i < length rs → reply_at log i ≡ Ok (Judged Unsafe)
       → (t : List ℕ) × BadTrace (linked_at C rs log i) t × Walks (linked_at C rs log i) t
       × ((j : ℕ) → i ≤ j → j < length rs → request_at rs j ≡ Trace
-      → ((reply_at log j ≡ Ok (Traced (length t))) × (take (length t) output ≡ t)) ⊎ (reply_at log j ≡ Err (LongTrace (hold (length t)))))
+      → ((reply_at log j ≡ Ok (Traced (length t))) × (take (length t) output ≡ t)) ⊎ (reply_at log j ≡ Err (LongTrace (capped (length t)))))
   -- after a dig of as many facts as there are places no verdict is unfinished until a link is accepted
   pub ending : (i j k : ℕ) → i < j → j < length rs → request_at rs i ≡ Dig k → C.places ≤ k → accepted (take j rs) (take j log) ≡ accepted (take i rs) (take i log) → reply_at log j ≡ Ok (Judged Unfinished) → ⊥
   -- a reply of full: the recipe, as it was linked then, yields more facts than there are places

@@ -5,7 +5,7 @@ use Rattle.std.proofs.lemmas.Iterator.{YieldsList}
 use Rattle.std.proofs.lemmas.List.{length-take-le}
 use Rattle.model.specs.declared.Fact.{Fact}
 use Rattle.model.specs.Facts.{Setting}
-use Rattle.model.specs.Tables.{row_at, hold, first_row, follow_row, enter_row, back_row}
+use Rattle.model.specs.Tables.{row_at, capped, first_row, follow_row, enter_row, back_row}
 use Rattle.inquiry.specs.declared.Inquiry.{Inquiry}
 use Rattle.inquiry.specs.declared.placed.Placed.{Placed}
 use Rattle.inquiry.specs.Inquiries.{state_of, IsRow, Grown}
@@ -32,13 +32,13 @@ module _ (X : Setting) (rows : List Fact) where
   hangs_first n = (omega arith, omega arith, refl)
 
   pub hangs_follow : (i : ℕ) (c : Fact) (m : ℕ) → i < length rows → row_at rows i ≡ c → Hangs rows (follow_row X i c m)
-  hangs_follow i c m lt is = (omega arith, omega arith, ap (λ (r : Fact). hold (r.span + 1)) (sym is) ∙ (let e = span_of rows i in omega arith))
+  hangs_follow i c m lt is = (omega arith, omega arith, ap (λ (r : Fact). capped (r.span + 1)) (sym is) ∙ (let e = span_of rows i in omega arith))
 
   pub hangs_enter : (i : ℕ) (c : Fact) (m : ℕ) → i < length rows → Hangs rows (enter_row X i c m)
   hangs_enter i c m lt = (omega arith, omega arith, refl)
 
   pub hangs_back : (i : ℕ) (c : Fact) (j : ℕ) (x : Fact) (m : ℕ) → i < length rows → j < length rows → row_at rows i ≡ c → row_at rows j ≡ x → Hangs rows (back_row X i c j x m)
-  hangs_back i c j x m lt below is was = (omega arith, omega arith, (λ k. let r : Fact = sym is k in let t : Fact = sym was k in hold (r.span + t.span + 1)) ∙ (let e = span_of rows i in let f = span_of rows j in omega arith))
+  hangs_back i c j x m lt below is was = (omega arith, omega arith, (λ k. let r : Fact = sym is k in let t : Fact = sym was k in capped (r.span + t.span + 1)) ∙ (let e = span_of rows i in let f = span_of rows j in omega arith))
 
 -- a fact with its place is a row of the search
 pub row_in : (t : Inquiry) (p : Placed) → IsRow t p → (p.at < length (state_of t).rows) × (row_at (state_of t).rows p.at ≡ p.fact)
@@ -63,5 +63,5 @@ hangs_later {b} {a} g f h =
     let more = g.more in (
       omega (arith, h.0),
       omega (arith, h.1),
-      h.2 ∙ (λ i. cond (eqb f.rule 3) 1 (hold (1 + span_later g f.source (omega (arith, h.0)) i + span_later g f.returned (omega (arith, h.1)) i))),
+      h.2 ∙ (λ i. cond (eqb f.rule 3) 1 (capped (1 + span_later g f.source (omega (arith, h.0)) i + span_later g f.returned (omega (arith, h.1)) i))),
     )

@@ -3,7 +3,7 @@ use Rattle.std.proofs.Common.{◌≡◌, ℕ, zero, suc, ◌+◌, ◌-◌, ◌<�
 use Rattle.std.proofs.lemmas.List.{length-append, length-take-le, take-take, get_or-take}
 use Rattle.std.proofs.lemmas.Bool.{cond-true, cond-false, cond_both}
 use Rattle.model.specs.declared.Fact.{Fact}
-use Rattle.model.specs.Tables.{row_at, no_fact, hold, Tale, no_tale, tale_at}
+use Rattle.model.specs.Tables.{row_at, no_fact, capped, Tale, no_tale, tale_at}
 use Rattle.model.proofs.Tales.{tales_below, tale_source, tale_none, tale_is}
 use Rattle.inquiry.specs.declared.Inquiry.{Inquiry}
 use Rattle.inquiry.specs.Inquiries.{state_of}
@@ -107,18 +107,18 @@ module _ (rows : List Fact) (hang : Hanging rows) where
   before_less {place} {f} h = let s = sources h.at h.lt in let same = ap (λ (r : Fact). r.source) h.is in let up = h.up in omega (arith, s.0)
 
   -- how long a row says its stretch is, by the stretches of its sources
-  span_by : (i : ℕ) → i < length rows → (row_at rows i).span ≡ cond (eqb (row_at rows i).rule 3) 1 (hold (1 + span_at rows (row_at rows i).source + span_at rows (row_at rows i).returned))
+  span_by : (i : ℕ) → i < length rows → (row_at rows i).span ≡ cond (eqb (row_at rows i).rule 3) 1 (capped (1 + span_at rows (row_at rows i).source + span_at rows (row_at rows i).returned))
   span_by i lt =
       let f = row_at rows i in
       let s = sources i lt in
-      (hang i lt).2 ∙ (λ k. cond (eqb f.rule 3) 1 (hold (1 + of f.source s.0 k + of f.returned s.1 k)))
+      (hang i lt).2 ∙ (λ k. cond (eqb f.rule 3) 1 (capped (1 + of f.source s.0 k + of f.returned s.1 k)))
     where
       of : (k : ℕ) → k ≤ i → span_at (take i rows) k ≡ span_at rows k
       of zero le = refl
       of (suc k) le = ap (λ (r : Fact). r.span) (get_or-take i rows k no_fact (omega arith))
 
   -- it is that stretch's length, held
-  spans_below : (n k : ℕ) → k ≤ n → k ≤ length rows → span_at rows k ≡ hold (length (stretch_from rows k))
+  spans_below : (n k : ℕ) → k ≤ n → k ≤ length rows → span_at rows k ≡ capped (length (stretch_from rows k))
   spans_below n zero le fits = refl
   spans_below zero (suc i) le fits = absurd (omega arith)
   spans_below (suc n) (suc i) le fits =
@@ -127,17 +127,17 @@ module _ (rows : List Fact) (hang : Hanging rows) where
       let source = spans_below n f.source (omega (arith, s.0)) (omega (arith, s.0)) in
       let returned = spans_below n f.returned (omega (arith, s.1)) (omega (arith, s.1)) in
       let both = length-append (stretch_from rows f.returned) (stretch_from rows f.source) in
-      cond_both (eqb f.rule 3) 1 (hold (1 + span_at rows f.source + span_at rows f.returned)) (λ m. f.span ≡ m → f.span ≡ hold (length (tale_at rows i).stretch))
-      (λ call e. e ∙ ap (λ (t : Tale). hold (length t.stretch)) (sym (begins i (omega arith) call)))
-      (λ other e. e ∙ (let sum : hold (1 + span_at rows f.source + span_at rows f.returned) ≡ hold (suc (length (stretch_from rows f.returned ++ stretch_from rows f.source))) = omega arith in sum)
-      ∙ ap (λ (t : Tale). hold (length t.stretch)) (sym (goes_on i (omega arith) other)))
+      cond_both (eqb f.rule 3) 1 (capped (1 + span_at rows f.source + span_at rows f.returned)) (λ m. f.span ≡ m → f.span ≡ capped (length (tale_at rows i).stretch))
+      (λ call e. e ∙ ap (λ (t : Tale). capped (length t.stretch)) (sym (begins i (omega arith) call)))
+      (λ other e. e ∙ (let sum : capped (1 + span_at rows f.source + span_at rows f.returned) ≡ capped (suc (length (stretch_from rows f.returned ++ stretch_from rows f.source))) = omega arith in sum)
+      ∙ ap (λ (t : Tale). capped (length t.stretch)) (sym (goes_on i (omega arith) other)))
       (span_by i (omega arith))
 
-  pub spans : (k : ℕ) → k ≤ length rows → span_at rows k ≡ hold (length (stretch_from rows k))
+  pub spans : (k : ℕ) → k ≤ length rows → span_at rows k ≡ capped (length (stretch_from rows k))
   spans k le = spans_below k k (omega arith) le
 
   -- the length of what is left of a trace, with what was counted of it, after one stretch more
-  pub counted_more : (n k next : ℕ) → k ≤ length rows → (tale_from rows k).below ≡ back_from rows next → hold (hold (n + span_at rows k) + length (back_from rows next)) ≡ hold (n + length (back_from rows k))
+  pub counted_more : (n k next : ℕ) → k ≤ length rows → (tale_from rows k).below ≡ back_from rows next → capped (capped (n + span_at rows k) + length (back_from rows next)) ≡ capped (n + length (back_from rows k))
   counted_more n k next le below =
       let e = spans k le in
       let whole = length-append (stretch_from rows k) (tale_from rows k).below in

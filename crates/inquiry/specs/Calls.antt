@@ -5,7 +5,7 @@ use Rattle.model.specs.Facts.{Setting}
 use Rattle.model.specs.Links.{is_listed}
 use Rattle.model.specs.Program.{Program, is_edge, counted}
 use Rattle.model.specs.Searches.{first_trace}
-use Rattle.model.specs.Tables.{hold, Search, any_bad, verdict_of}
+use Rattle.model.specs.Tables.{capped, Search, any_bad, verdict_of}
 use Rattle.model.specs.Watches.{Watch}
 use Rattle.recipe.specs.declared.grounds.Refusal.{Refusal}
 use Rattle.recipe.specs.declared.grounds.Refusal.TheVariants.{TooMany, OtherCounts, UnfitTable, NotAnEdge, EdgeHeld, EdgesFull, InquiryFull, NotUnsafe, LongTrace}
@@ -76,9 +76,9 @@ link_allowed p used places full e =
 abbrev pub link_answer : Inquiry → Setting → List Edge → Bool → Edge → Allowed
 link_answer i X edges full e = void_or (dig_answer i X (length edges)) (link_allowed X.program (in_use i edges) (length edges) full e)
 
--- how long the trace of the first bad fact is, held
+-- how long the trace of the first bad fact is, capped
 abbrev pub trace_length : Watch → Search → ℕ
-trace_length W s = hold (length (first_trace W s.rows))
+trace_length W s = capped (length (first_trace W s.rows))
 
 -- whether that trace is written to an output of so many places: a fact is bad, and the output is long enough for it and its length is not the greatest that is told
 abbrev pub trace_allowed : Watch → Search → ℕ → Allowed

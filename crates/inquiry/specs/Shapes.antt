@@ -1,7 +1,7 @@
 -- The rows of a fact table hang together: each names rows before it, and has the length that follows from theirs.
 use Rattle.std.specs.Prelude.{◌≡◌, ℕ, zero, suc, ◌+◌, ◌-◌, ◌≤◌, cond, List, ◌++◌, length, ◌==◌, slice_set}
 use Rattle.model.specs.declared.Fact.{Fact}
-use Rattle.model.specs.Tables.{row_at, hold, Tale, no_tale, tale_at}
+use Rattle.model.specs.Tables.{row_at, capped, Tale, no_tale, tale_at}
 
 -- the length of the stretch of the row at a place, counted from 1; none at 0
 abbrev pub span_at : List Fact → ℕ → ℕ
@@ -13,7 +13,7 @@ abbrev pub Hangs : List Fact → Fact → Type 0
 Hangs rows f =
     (f.source ≤ length rows)
     × (f.returned ≤ length rows)
-    × (f.span ≡ cond (f.rule == 3) 1 (hold (1 + span_at rows f.source + span_at rows f.returned)))
+    × (f.span ≡ cond (f.rule == 3) 1 (capped (1 + span_at rows f.source + span_at rows f.returned)))
 
 -- the tale of the row at a place, counted from 1; the empty one at 0. Its stretch, and the whole trace of the row, each with the last node first
 abbrev pub tale_from : List Fact → ℕ → Tale

@@ -1,6 +1,6 @@
 // The trace of the first bad fact, written in place from its end.
 ghost use Rattle.std.specs.Prelude.{◌≡◌, ◌-◌, ◌<◌, ◌≤◌, true, false, ◌++◌, length, take, drop, reverse, IfOk, MatchOption};
-ghost use Rattle.model.specs.Tables.{row_at, hold, any_bad, first_bad};
+ghost use Rattle.model.specs.Tables.{row_at, capped, any_bad, first_bad};
 ghost use Rattle.inquiry.specs.Calls.{answered, unless, trace_answer, trace_length, trace_output};
 ghost use Rattle.inquiry.specs.Inquiries.{state_of};
 ghost use Rattle.inquiry.specs.Promises.{Bad};
@@ -30,7 +30,7 @@ impl Inquiry<'_> {
         self.facts[place as usize - 1]
     }
 
-    // How long the stretch of the row at a place is, held.
+    // How long the stretch of the row at a place is, capped.
     fn span_at(&self, place: u32) -> u32
         requires { place ≤ self.now.held }
         ensures { result ≡ span_at (state_of self.now).rows place }
@@ -51,10 +51,10 @@ impl Inquiry<'_> {
         row.source
     }
 
-    // How long the trace of the row at a place is, held.
+    // How long the trace of the row at a place is, capped.
     fn trace_length(&self, place: u32) -> u32
         requires { place ≤ self.now.held }
-        ensures { result ≡ hold (length (back_from (state_of self.now).rows place)) }
+        ensures { result ≡ capped (length (back_from (state_of self.now).rows place)) }
     {
         let mut length: u32 = 0;
         let mut at = place;

@@ -11,7 +11,7 @@ use Rattle.model.specs.Access.{Rule, history, stack_inspection}
 use Rattle.model.specs.Facts.{Setting}
 use Rattle.model.specs.Program.{Program, counted}
 use Rattle.model.specs.Searches.{BadTrace}
-use Rattle.model.specs.Tables.{Search, hold, dug, opened, verdict_of}
+use Rattle.model.specs.Tables.{Search, capped, dug, opened, verdict_of}
 use Rattle.model.specs.declared.Verdict.TheVariants.{Unsafe}
 use Rattle.model.specs.Watches.{table_watch}
 use Rattle.recipe.specs.Bytes.{program_of, edges_of}
@@ -99,12 +99,12 @@ module _ (rule : Program → Rule) (bs : List ℕ) where
   shows_so : Shows X (found_in rule bs)
   shows_so = record { unsafe = λ e. by (says_so e); none = λ other. nothing other ((asking_law C).wanting first_asked) }
     where
-      by : Says C first_asked Unsafe → (t : List ℕ) × BadTrace X t × (((found_in rule bs).trace ≡ Ok t) ⊎ (((found_in rule bs).trace ≡ Err (LongTrace (hold (length t)))) × (1024 < length t)))
+      by : Says C first_asked Unsafe → (t : List ℕ) × BadTrace X t × (((found_in rule bs).trace ≡ Ok t) ⊎ (((found_in rule bs).trace ≡ Err (LongTrace (capped (length t)))) × (1024 < length t)))
       by says =
           let s = (asking_law C).shown first_asked says in
           (s.0, subst (λ (Y : Setting). BadTrace Y s.0) linked_is (s.1.bad []), of s.0 (s.1.written []))
         where
-          of : (t : List ℕ) → Written t (asked C first_asked Trace) (after C first_asked).output (after C all_asked).output → ((found_in rule bs).trace ≡ Ok t) ⊎ (((found_in rule bs).trace ≡ Err (LongTrace (hold (length t)))) × (1024 < length t))
+          of : (t : List ℕ) → Written t (asked C first_asked Trace) (after C first_asked).output (after C all_asked).output → ((found_in rule bs).trace ≡ Ok t) ⊎ (((found_in rule bs).trace ≡ Err (LongTrace (capped (length t)))) × (1024 < length t))
           of t (inl w) = inl (ap (written_to (after C all_asked).output) w.0 ∙ ap Ok (ap (take (length t)) w.3 ∙ take_at t (drop (length t) (after C first_asked).output) (length t) refl))
           of t (inr w) = inr (ap (written_to (after C all_asked).output) w.0, long w.1)
             where

@@ -6,7 +6,7 @@ use Rattle.model.specs.Access.{Rule, history, stack_inspection}
 use Rattle.model.specs.Facts.{Setting}
 use Rattle.model.specs.Program.{Program}
 use Rattle.model.specs.Searches.{BadTrace}
-use Rattle.model.specs.Tables.{Search, hold, opened, dug}
+use Rattle.model.specs.Tables.{Search, capped, opened, dug}
 use Rattle.model.specs.Watches.{table_watch}
 use Rattle.model.specs.declared.Verdict.TheVariants.{Unsafe}
 use Rattle.recipe.specs.Bytes.{program_of, edges_of}
@@ -97,9 +97,9 @@ Finds rule bs (Ok f) = shown f ≡ found_in rule bs
 Finds rule bs (Err (Refused e)) = fit_of (case_in rule bs) ≡ Err e
 Finds rule bs (Err OutOfMemory) = Unit {0}
 
--- at unsafe there is the trace of a bad run, or it has more than 1,024 nodes and its length is told, held; else there is none
+-- at unsafe there is the trace of a bad run, or it has more than 1,024 nodes and its length is told, capped; else there is none
 pub record Shows (X : Setting) (f : Found) : Type 0 where
-  pub unsafe : f.report.verdict ≡ Unsafe → (t : List ℕ) × BadTrace X t × ((f.trace ≡ Ok t) ⊎ ((f.trace ≡ Err (LongTrace (hold (length t)))) × (1024 < length t)))
+  pub unsafe : f.report.verdict ≡ Unsafe → (t : List ℕ) × BadTrace X t × ((f.trace ≡ Ok t) ⊎ ((f.trace ≡ Err (LongTrace (capped (length t)))) × (1024 < length t)))
   pub none : f.report.verdict ≢ Unsafe → f.trace ≡ Err NotUnsafe
 
 -- what is found is right, of every run of the recipe under that rule

@@ -7,6 +7,7 @@ mod showing;
 
 pub use deciding::judge;
 pub use errors::JudgeError;
+pub use showing::printed;
 use inquiry::Report;
 use recipe::Refusal;
 use std::alloc::Global;

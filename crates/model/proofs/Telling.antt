@@ -9,7 +9,7 @@ use Rattle.model.specs.Facts.{Setting, Derives, Yields, kind_at, follow_point, e
 use Rattle.model.specs.Facts.{first as derive_first, follow as derive_follow, enter as derive_enter, back as derive_back}
 use Rattle.model.specs.Runs.{Leads, goes_on, returns_at}
 use Rattle.model.specs.Searches.{Sound, HeldAt, Through, fact_in, Different, Told, facts_of}
-use Rattle.model.specs.Tables.{start_of, end_of, row_at, no_fact, hold, first_row, follow_row, enter_row, back_row, same_point, gives, is_held, Search, Tale, no_tale, tale_of, tale_at}
+use Rattle.model.specs.Tables.{start_of, end_of, row_at, no_fact, capped, first_row, follow_row, enter_row, back_row, same_point, gives, is_held, Search, Tale, no_tale, tale_of, tale_at}
 use Rattle.model.proofs.Summaries.{facts_sum_up_runs}
 use Rattle.model.proofs.Grounded.{Given, first, follow, enter, back, given_derived, derived_given, Grounded, grounded_push}
 use Rattle.model.proofs.Held.{point_same, same_point_lem, fact_same, same_fact_lem, held_place, place_held}
@@ -18,15 +18,15 @@ use Rattle.model.proofs.Searching.{sound_grounded}
 use Rattle.model.proofs.Tales.{tales_below, tale_source, tale_none, tale_is}
 
 -- lengths that are held at the greatest, one more and added up
-hold_more : (n : ℕ) → hold (hold n + 1) ≡ hold (suc n)
-hold_more n = omega arith
+capped_more : (n : ℕ) → capped (capped n + 1) ≡ capped (suc n)
+capped_more n = omega arith
 
-hold_sum : (a b n : ℕ) → b + a ≡ n → hold (hold a + hold b + 1) ≡ hold (suc n)
-hold_sum a b n e = omega arith
+capped_sum : (a b n : ℕ) → b + a ≡ n → capped (capped a + capped b + 1) ≡ capped (suc n)
+capped_sum a b n e = omega arith
 
 -- a row's fact is derived with this tale, whose stretch has the row's length
 abbrev Tells : Setting → Fact → Tale → Type 0
-Tells X f t = Derives X (start_of f) (end_of f) t.stretch t.below × (f.span ≡ hold (length t.stretch))
+Tells X f t = Derives X (start_of f) (end_of f) t.stretch t.below × (f.span ≡ capped (length t.stretch))
 
 -- the two points of a row's fact
 abbrev pub fact_of : Fact → Point × Point
@@ -45,7 +45,7 @@ module _ (X : Setting) (rows : List Fact) where
       let d = before k lt in
       subst (λ t. Tells X (follow_row X k c m) (record { stretch = m ∷ ((get_or (tales_below rows i) 0 no_tale).stretch ++ t.stretch); below = t.below })) (sym (tale_source rows i le k lt))
       (subst (λ (t : Tale). Tells X (follow_row X k c m) (record { stretch = m ∷ (t.stretch ++ (tale_at rows k).stretch); below = (tale_at rows k).below })) (sym (tale_none rows i le))
-      (derive_follow m d.0 g l, ap (λ n. hold (n + 1)) d.1 ∙ hold_more (length (tale_at rows k).stretch)))
+      (derive_follow m d.0 g l, ap (λ n. capped (n + 1)) d.1 ∙ capped_more (length (tale_at rows k).stretch)))
   row_tells i le before (enter k m lt g) =
       let c = row_at rows k in
       subst (λ (t : Tale). Tells X (enter_row X k c m) (record { stretch = m ∷ []; below = t.stretch ++ t.below })) (sym (tale_source rows i le k lt)) (derive_enter m (before k lt).0 g, refl)
@@ -60,8 +60,8 @@ module _ (X : Setting) (rows : List Fact) where
       subst (λ (t : Tale). Tells X (back_row X k c j x m) (record { stretch = m ∷ ((get_or (tales_below rows i) (j + 1) no_tale).stretch ++ t.stretch); below = t.below })) (sym (tale_source rows i le k lt))
       (subst (λ (t : Tale). Tells X (back_row X k c j x m) (record { stretch = m ∷ (t.stretch ++ (tale_at rows k).stretch); below = (tale_at rows k).below })) (sym (tale_source rows i le j under)) (
         derive_back x.entry m d.0 p.1 inner p.0 l,
-        ap (λ n. hold (n + x.span + 1)) d.1 ∙ ap (λ n. hold (hold (length (tale_at rows k).stretch) + n + 1)) e.1
-            ∙ hold_sum (length (tale_at rows k).stretch) (length (tale_at rows j).stretch) (length ((tale_at rows j).stretch ++ (tale_at rows k).stretch)) (sym (length-append (tale_at rows j).stretch (tale_at rows k).stretch)),
+        ap (λ n. capped (n + x.span + 1)) d.1 ∙ ap (λ n. capped (capped (length (tale_at rows k).stretch) + n + 1)) e.1
+            ∙ capped_sum (length (tale_at rows k).stretch) (length (tale_at rows j).stretch) (length ((tale_at rows j).stretch ++ (tale_at rows k).stretch)) (sym (length-append (tale_at rows j).stretch (tale_at rows k).stretch)),
       ))
 
   module _ (h : Grounded X rows) where

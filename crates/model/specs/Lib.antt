@@ -10,4 +10,5 @@ pub mod Runs
 pub mod Searches
 pub mod Tables
 pub mod Watches
+pub mod Words
 pub mod Worked

@@ -11,7 +11,7 @@ use Rattle.model.specs.Facts.{Setting, Derives, Yields, RunIn, RunGoesBad, kind_
 use Rattle.model.specs.Links.{with_edges, Among}
 use Rattle.model.specs.Runs.{Leads, goes_on}
 use Rattle.model.specs.Watches.{Watch}
-use Rattle.model.specs.Tables.{start_of, end_of, row_at, hold, first_row, follow_row, enter_row, back_row, is_held, joins, Search, opened, pending, dug, any_bad, first_bad, verdict_of, tale_at}
+use Rattle.model.specs.Tables.{start_of, end_of, row_at, capped, first_row, follow_row, enter_row, back_row, is_held, joins, Search, opened, pending, dug, any_bad, first_bad, verdict_of, tale_at}
 
 -- a row is given by its rule from rows of the table, and names them as its sources
 pub data DerivedFrom (X : Setting) (rows : List Fact) : Fact → Type 0 where
@@ -58,9 +58,9 @@ pub record Different (X : Setting) (fs : List (Point × Point)) : Type 0 where
 pub record Told (X : Setting) (places : ℕ) (s : Search) : Type 0 where
   -- each row's rule and sources give it, and the sources stand before it
   pub derived : (i : ℕ) → i < length s.rows → DerivedFrom X (take i s.rows) (row_at s.rows i)
-  -- each held fact is yielded, by a derivation with the row's stretch; the row has the stretch's length, held
+  -- each held fact is yielded, by a derivation with the row's stretch; the row has the stretch's length, capped
   pub yielded : (i : ℕ) → i < length s.rows → Derives X (start_of (row_at s.rows i)) (end_of (row_at s.rows i)) (tale_at s.rows i).stretch (tale_at s.rows i).below
-  pub spans : (i : ℕ) → i < length s.rows → (row_at s.rows i).span ≡ hold (length (tale_at s.rows i).stretch)
+  pub spans : (i : ℕ) → i < length s.rows → (row_at s.rows i).span ≡ capped (length (tale_at s.rows i).stretch)
   -- none is held twice
   pub once : (i j : ℕ) (a x : Point) → HeldAt s.rows a x i → HeldAt s.rows a x j → i ≡ j
   -- one that is through holds every yielded fact

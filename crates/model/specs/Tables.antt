@@ -26,9 +26,9 @@ no_fact = record { entry = 0; brought = 0; seen = 0; node = 0; value = 0; state 
 abbrev pub row_at : List Fact → ℕ → Fact
 row_at rows i = slice_index_or rows i no_fact
 
--- a length is held at the greatest number of 32 bits
-abbrev pub hold : ℕ → ℕ
-hold n = min n 4294967295
+-- a length is capped at the greatest number of 32 bits
+abbrev pub capped : ℕ → ℕ
+capped n = min n 4294967295
 
 -- a row: its two points, the rule, its sources, and how long its stretch is
 abbrev pub row : Point → Point → ℕ → ℕ → ℕ → ℕ → Fact
@@ -39,13 +39,13 @@ abbrev pub first_row : Setting → ℕ → Fact
 first_row X n = row (first_point X n) (first_point X n) 1 0 0 1
 
 abbrev pub follow_row : Setting → ℕ → Fact → ℕ → Fact
-follow_row X i c m = row (start_of c) (follow_point X (end_of c) m) 2 (i + 1) 0 (hold (c.span + 1))
+follow_row X i c m = row (start_of c) (follow_point X (end_of c) m) 2 (i + 1) 0 (capped (c.span + 1))
 
 abbrev pub enter_row : Setting → ℕ → Fact → ℕ → Fact
 enter_row X i c m = row (enter_point X (end_of c) m) (enter_point X (end_of c) m) 3 (i + 1) 0 1
 
 abbrev pub back_row : Setting → ℕ → Fact → ℕ → Fact → ℕ → Fact
-back_row X i c j x m = row (start_of c) (back_point X (end_of c) (end_of x) m) 4 (i + 1) (j + 1) (hold (c.span + x.span + 1))
+back_row X i c j x m = row (start_of c) (back_point X (end_of c) (end_of x) m) 4 (i + 1) (j + 1) (capped (c.span + x.span + 1))
 
 abbrev pub same_point : Point → Point → Bool
 same_point a b = a.node == b.node && (a.value == b.value && a.state == b.state)

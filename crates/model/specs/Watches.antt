@@ -14,15 +14,15 @@ abbrev pub asks_step : ℕ → ℕ → ℕ → Bool
 asks_step states q mark = nat_lt q states && nat_lt mark 32
 
 -- a cell of a table with so many rows: 255, undefined, leads to the state past the last row
-abbrev pub leads : ℕ → ℕ → ℕ
-leads rows cell = cond (cell == 255) rows cell
+abbrev pub after_cell : ℕ → ℕ → ℕ
+after_cell rows cell = cond (cell == 255) rows cell
 
 -- the table watch has a state for each row and one more, the only bad one, which steps to itself
 abbrev pub table_watch : List (List ℕ) → Watch
 table_watch rows = record {
   states = length rows + 1;
   start = 0;
-  step = λ q mark. cond (asks_step (length rows + 1) q mark) (cond (nat_lt q (length rows)) (leads (length rows) (slice_index (slice_index_or rows q no_row) mark)) (length rows)) 0;
+  step = λ q mark. cond (asks_step (length rows + 1) q mark) (cond (nat_lt q (length rows)) (after_cell (length rows) (slice_index (slice_index_or rows q no_row) mark)) (length rows)) 0;
   bad = λ q. (q == length rows);
 }
 

@@ -4,4 +4,5 @@ pub mod Offence
 pub mod Recipes
 pub mod Sequences
 pub mod Spans
+pub mod Words
 pub mod Writing

@@ -1,9 +1,15 @@
 // What a refusal says, in words.
+ghost use Rattle.std.specs.Prelude.{◌≡◌, Some};
+ghost use Rattle.std.specs.Fmt.{DisplaysOnOk};
+ghost use Rattle.recipe.specs.Words.{body_name, misplaced, miscounted, sentence};
+
 use crate::Refusal;
 use std::error::Error;
 use std::fmt;
 
 impl fmt::Display for Refusal {
+    ghost output = { λ r. Some (sentence r) };
+
     fn fmt<W: fmt::Write>(&self, f: &mut fmt::Formatter<W>) -> fmt::Result {
         match *self {
             Refusal::Misplaced { entry } => explain_place(f, entry),
@@ -68,7 +74,9 @@ const NOT_AN_EDGE: &str =
 const ENDLESS_TRACE: &str = "the trace has 4294967295 nodes or more";
 
 // The bodies that the entries of the table of contents are of, in their order.
-fn body(entry: u32) -> &'static str {
+fn body(entry: u32) -> &'static str
+    ensures { result.now ≡ body_name entry }
+{
     match entry {
         0 => "methods",
         1 => "nodes",
@@ -78,7 +86,9 @@ fn body(entry: u32) -> &'static str {
 }
 
 // The length counts as the entry after the last one.
-fn explain_place<W: fmt::Write>(f: &mut fmt::Formatter<W>, entry: u32) -> fmt::Result {
+fn explain_place<W: fmt::Write>(f: &mut fmt::Formatter<W>, entry: u32) -> fmt::Result
+    ensures { DisplaysOnOk W.write_str_gives f.old result (Some (misplaced entry)) f.new }
+{
     match entry {
         0..=3 => {
             let body = body(entry);
@@ -93,7 +103,9 @@ fn explain_place<W: fmt::Write>(f: &mut fmt::Formatter<W>, entry: u32) -> fmt::R
     }
 }
 
-fn explain_count<W: fmt::Write>(f: &mut fmt::Formatter<W>, entry: u32) -> fmt::Result {
+fn explain_count<W: fmt::Write>(f: &mut fmt::Formatter<W>, entry: u32) -> fmt::Result
+    ensures { DisplaysOnOk W.write_str_gives f.old result (Some (miscounted entry)) f.new }
+{
     let body = body(entry);
     write!(
         f,

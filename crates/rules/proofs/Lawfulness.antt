@@ -6,7 +6,7 @@ use Rattle.std.proofs.lemmas.Option.{slice_get-get_or}
 use Rattle.std.proofs.lemmas.Bool.{cases_lt, cond-true, cond-false, lt-ltb, le-ltb}
 use Rattle.std.proofs.lemmas.Bool.Decides.{nat_tests}
 use Rattle.model.specs.Program.{no_method, no_row, method_at, rights_of}
-use Rattle.model.specs.Watches.{asks_step, leads}
+use Rattle.model.specs.Watches.{asks_step, after_cell}
 use Rattle.model.proofs.Sums.{home_far}
 use Rattle.recipe.specs.declared.Recipe.{Recipe}
 use Rattle.recipe.specs.Recipes.{program, cell_of}
@@ -33,23 +33,23 @@ module _ (r : Recipe) (q mark : ℕ) (state : q ≤ length (program r).rows) (fe
   past_rows : length rows ≤ q → cell ≡ 255
   past_rows far = ap (λ row. unwrap_or (slice_get row mark) 255) (get_or_past rows q no_row far)
 
-  cell_leads : leads (length rows) cell ≡ cond (ltb q (length rows)) (leads (length rows) (get_or (get_or rows q no_row) mark 0)) (length rows)
+  cell_leads : after_cell (length rows) cell ≡ cond (ltb q (length rows)) (after_cell (length rows) (get_or (get_or rows q no_row) mark 0)) (length rows)
   cell_leads = elim (cases_lt q (length rows)) [
-    | inl lt ↦ ap (leads (length rows)) (in_row lt) ∙ sym (cond-true (ltb q (length rows)) _ _ (lt-ltb q (length rows) lt))
-    | inr far ↦ ap (leads (length rows)) (past_rows far) ∙ sym (cond-false (ltb q (length rows)) _ _ (le-ltb q (length rows) far))
+    | inl lt ↦ ap (after_cell (length rows)) (in_row lt) ∙ sym (cond-true (ltb q (length rows)) _ _ (lt-ltb q (length rows) lt))
+    | inr far ↦ ap (after_cell (length rows)) (past_rows far) ∙ sym (cond-false (ltb q (length rows)) _ _ (le-ltb q (length rows) far))
   ]
 
-  cell_below : leads (length rows) cell < length rows + 1
+  cell_below : after_cell (length rows) cell < length rows + 1
   cell_below = elim (cases_lt q (length rows)) [
     | inl lt ↦ let e = in_row lt in let c = ((stands r).row q lt).cells mark few in grind (arith, nat_tests)
     | inr far ↦ let e = past_rows far in grind (arith, nat_tests)
   ]
 
   -- so what it leads to is where the table watch goes
-  pub cell_steps : (o : Option ℕ) (n : ℕ) → cell_of (program r) q mark ≡ o → leads (length rows) (unwrap_or o 255) ≡ n
-      → (n ≡ cond (asks_step (length rows + 1) q mark) (cond (ltb q (length rows)) (leads (length rows) (get_or (get_or rows q no_row) mark 0)) (length rows)) 0) × (n < length rows + 1)
+  pub cell_steps : (o : Option ℕ) (n : ℕ) → cell_of (program r) q mark ≡ o → after_cell (length rows) (unwrap_or o 255) ≡ n
+      → (n ≡ cond (asks_step (length rows + 1) q mark) (cond (ltb q (length rows)) (after_cell (length rows) (get_or (get_or rows q no_row) mark 0)) (length rows)) 0) × (n < length rows + 1)
   cell_steps o n same leads_to =
       let asked : asks_step (length rows + 1) q mark ≡ true = grind (arith, nat_tests) in
-      let to : leads (length rows) cell ≡ n = ap (λ c. leads (length rows) (unwrap_or c 255)) same ∙ leads_to in
+      let to : after_cell (length rows) cell ≡ n = ap (λ c. after_cell (length rows) (unwrap_or c 255)) same ∙ leads_to in
       let b = cell_below in
       (sym to ∙ cell_leads ∙ sym (cond-true (asks_step (length rows + 1) q mark) _ 0 asked), omega arith)

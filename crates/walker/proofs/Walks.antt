@@ -17,7 +17,7 @@ use Rattle.recipe.specs.declared.grounds.Refusal.{Refusal}
 use Rattle.recipe.specs.declared.grounds.Refusal.TheVariants.{Misplaced, Miscounted, BadMethod, BadNode, BadEdge, BadRow, TooMany, OtherCounts, UnfitTable, NotAnEdge, EdgeHeld, EdgesFull, InquiryFull, NotUnsafe, LongTrace, NotAStep, StackFull, ShortOutput}
 use Rattle.walker.specs.declared.stands.Stand.{Stand}
 use Rattle.walker.specs.Accepted.{frames_in, Stands, StandsAt, Refuses, Enough}
-use Rattle.walker.specs.Walking.{no_frame, leads, step_by, step_from, step_first, step_answer, step_stack, stand_at, placed, Walked, advance_by, replay_from, begun, replayed}
+use Rattle.walker.specs.Walking.{no_frame, leads, step_by, step_from, step_first, step_answer, step_stack, stand_at, placed, Walked, advance_by, replay_from, first_walked, replayed}
 
 -- the test for an edge says what it should
 pub leads_decides : (es : List Edge) (a b : ℕ) → Decides (leads es a b) (Leads es a b)
@@ -283,7 +283,7 @@ module _ (p : Program) (es : List Edge) (R : Rule) (W : Watch) where
   pub told : (ns : List ℕ) (stack : List Frame) → MatchResult (replayed p es R W ns stack).at (Stands p es R W ns (replayed p es R W ns stack).stack) (Refuses p es R W ns (length stack))
   told [] stack = (λ l. absurd (omega arith), λ r. let l : 0 < length {A = ℕ} [] = run_some r.2 in omega arith)
   told (m ∷ ms) stack =
-      rest_told ms (m ∷ ms) (m ∷ []) 1 (begun p R W m stack) (length stack) refl refl (stack_kept (step_first p R m) stack)
+      rest_told ms (m ∷ ms) (m ∷ []) 1 (first_walked p R W m stack) (length stack) refl refl (stack_kept (step_first p R m) stack)
       (after (m ∷ ms) [] ms m 0 refl refl stack 0 W.start (omega arith) (λ l. absurd (omega arith)) (step_first p R m) (first_goes stack m))
 
   -- a step's answer says its place, which a list sets

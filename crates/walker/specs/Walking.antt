@@ -91,10 +91,10 @@ replay_from p es R W [] place w = w
 replay_from p es R W (m ∷ ms) place w = replay_from p es R W ms (place + 1) (advance_by p es R W w.at w.stack m place)
 
 -- the first node of a list
-abbrev pub begun : Program → Rule → Watch → ℕ → List Frame → Walked
-begun p R W m stack = record { at = step_answer p W (step_first p R m) (length stack) W.start m 0; stack = step_stack (step_first p R m) stack }
+abbrev pub first_walked : Program → Rule → Watch → ℕ → List Frame → Walked
+first_walked p R W m stack = record { at = step_answer p W (step_first p R m) (length stack) W.start m 0; stack = step_stack (step_first p R m) stack }
 
 -- a whole list; an empty one is no run
 abbrev pub replayed : Program → List Edge → Rule → Watch → List ℕ → List Frame → Walked
 replayed p es R W [] stack = record { at = Err (NotAStep 0); stack = stack }
-replayed p es R W (m ∷ ms) stack = replay_from p es R W ms 1 (begun p R W m stack)
+replayed p es R W (m ∷ ms) stack = replay_from p es R W ms 1 (first_walked p R W m stack)

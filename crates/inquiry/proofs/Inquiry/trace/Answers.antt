@@ -1,5 +1,5 @@
 use Rattle.std.proofs.Common.{◌≡◌, length, sym, ap, ◌∙◌, arith}
-use Rattle.model.specs.Tables.{hold}
+use Rattle.model.specs.Tables.{capped}
 use Rattle.inquiry.specs.Calls.{unless, trace_length, trace_output}
 use Rattle.inquiry.specs.Inquiries.{state_of}
 use Rattle.inquiry.proofs.Showing.{trace_long, trace_written, trace_may, trace_bad}
@@ -11,7 +11,7 @@ returns-clause-output g c =
     let W = g.W.Watch.watching c.args.watch.now in
     let out = c.args.out.now in
     let first = c.in-Some.ensures in
-    let long : c.trace_length-length.result ≡ trace_length W (state_of t) = c.trace_length-length.ensures ∙ ap hold (trace_long W (state_of t).rows c.in-Some.at first.1) in
+    let long : c.trace_length-length.result ≡ trace_length W (state_of t) = c.trace_length-length.ensures ∙ ap capped (trace_long W (state_of t).rows c.in-Some.at first.1) in
     let may = trace_may W t (c.in_ok-self.was) first.0 (length out) (omega (arith, c.if-length-out.false)) (omega (arith, c.if-length.false)) in
     trace_written W (state_of t).rows c.in-Some.at first.1 out c.write_trace.new.out c.write_trace.ensures ∙ ap (λ o. unless o (trace_output W (state_of t) out) out) (sym may)
 

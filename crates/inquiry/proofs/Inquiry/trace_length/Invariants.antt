@@ -1,5 +1,5 @@
 use Rattle.std.proofs.Common.{◌≡◌, ◌+◌, ◌≤◌, length}
-use Rattle.model.specs.Tables.{hold}
+use Rattle.model.specs.Tables.{capped}
 use Rattle.inquiry.specs.Inquiries.{state_of}
 use Rattle.inquiry.specs.Shapes.{back_from}
 use Rattle.inquiry.proofs.Inquiry.trace_length.Given as goal
@@ -9,7 +9,7 @@ abbrev pub invariant-loop-at : goal.invariant-loop-at
 invariant-loop-at l =
     (l.at ≤ l.self.held)
     × (l.length ≤ 4294967295)
-    × (hold (l.length + length (back_from (state_of l.self).rows l.at)) ≡ hold (length (back_from (state_of l.self).rows l.place)))
+    × (capped (l.length + length (back_from (state_of l.self).rows l.at)) ≡ capped (length (back_from (state_of l.self).rows l.place)))
 
 abbrev pub decreases-loop-at : goal.decreases-loop-at
 decreases-loop-at l = l.at

@@ -1,0 +1,33 @@
+-- What is printed of a judgement, and of a file: bytes of text.
+use Rattle.std.specs.Prelude.{ℕ, cond, List, [], ◌∷◌, ◌++◌, Ok, Err, Result, codes, ◌==◌}
+use Rattle.std.specs.Fmt.{decimal}
+use Rattle.std.specs.List.{flat_map}
+use Rattle.model.specs.Words.{verdict_name}
+use Rattle.recipe.specs.Offence.{number_of, detail_of}
+use Rattle.recipe.specs.declared.grounds.Refusal.{Refusal}
+use Rattle.judging.specs.Judged.{Found, judgement_of}
+
+-- each node of a list, with a blank before it
+abbrev pub nodes_text : List ℕ → List ℕ
+nodes_text ns = flat_map (λ n. codes " " ++ decimal n) ns
+
+-- the trace, or how long it is if it is refused for that (15); nothing else is said of it
+abbrev pub trace_text : Result (List ℕ) Refusal → List ℕ
+trace_text (Ok ns) = codes " trace" ++ nodes_text ns
+trace_text (Err e) = cond (number_of e == 15) (codes " long " ++ decimal (detail_of e)) []
+
+-- what one rule comes to, as a line: the rule, the verdict, how many facts are held, and the trace
+abbrev pub line_text : List ℕ → Found → List ℕ
+line_text rule f = rule ++ (codes " " ++ (verdict_name f.report.verdict ++ (codes " facts " ++ (decimal f.report.held ++ trace_text f.trace))))
+
+-- a line for each rule
+abbrev pub lines_text : Found → Found → List ℕ
+lines_text history stack = line_text (codes "history") history ++ (codes "\n" ++ line_text (codes "stack") stack)
+
+-- what is printed for a file: a line for each rule, or the number of the refusal
+abbrev pub judgement_text : Result (Found × Found) Refusal → List ℕ
+judgement_text (Ok found) = lines_text found.0 found.1
+judgement_text (Err e) = decimal (number_of e)
+
+abbrev pub text_of : List ℕ → List ℕ
+text_of bs = judgement_text (judgement_of bs)
