@@ -1,7 +1,7 @@
-// Judges the recipe files that it is given by name, and prints each name with what the file comes to, or the number of the refusal.
+// Prints the name of each recipe file that it is given, and then what judge prints for the file.
 #![tactic(auto)]
 
-use judging::{JudgeError, judge};
+use judging::printed;
 use std::{env, fs};
 
 fn main(rt: HostRuntime) -> anyhow::Result<()> {
@@ -9,11 +9,8 @@ fn main(rt: HostRuntime) -> anyhow::Result<()> {
     let _program = names.next();
     for name in names {
         let file = fs::read(&rt, name.as_str())?;
-        // users know a refusal by its number
-        match judge(rt.alloc(), &file) {
-            Err(JudgeError::Refused(refusal)) => println!(rt; "{name}\n{}", refusal.number())?,
-            judged => println!(rt; "{name}\n{}", judged?)?,
-        }
+        let text = printed(rt.alloc(), &file)?;
+        println!(rt; "{name}\n{text}")?;
     }
     Ok(())
 }

@@ -5,6 +5,9 @@ use Rattle.std.specs.List.{flat_map}
 use Rattle.model.specs.Words.{verdict_name}
 use Rattle.recipe.specs.Offence.{number_of, detail_of}
 use Rattle.recipe.specs.declared.grounds.Refusal.{Refusal}
+use Rattle.recipe.specs.Words.{sentence}
+use Rattle.judging.specs.declared.errors.JudgeError.{JudgeError}
+use Rattle.judging.specs.declared.errors.JudgeError.TheVariants.{Refused, OutOfMemory}
 use Rattle.judging.specs.Judged.{Found, judgement_of}
 
 -- each node of a list, with a blank before it
@@ -31,3 +34,8 @@ judgement_text (Err e) = decimal (number_of e)
 
 abbrev pub text_of : List ℕ → List ℕ
 text_of bs = judgement_text (judgement_of bs)
+
+-- why there is no judgement, in words
+abbrev pub error_text : JudgeError → List ℕ
+error_text (Refused e) = codes "no recipe file: " ++ sentence e
+error_text OutOfMemory = codes "out of memory"

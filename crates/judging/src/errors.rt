@@ -1,6 +1,7 @@
 // Why there is no judgement of a file.
-ghost use Rattle.std.specs.Prelude.{◌≡◌};
+ghost use Rattle.std.specs.Prelude.{◌≡◌, Some};
 ghost use Rattle.judging.specs.declared.errors.JudgeError.TheVariants.{Refused, OutOfMemory};
+ghost use Rattle.judging.specs.Printed.{error_text};
 
 use recipe::Refusal;
 use std::alloc::AllocError;
@@ -17,6 +18,8 @@ pub enum JudgeError {
 }
 
 impl fmt::Display for JudgeError {
+    ghost output = { λ e. Some (error_text e) };
+
     fn fmt<W: fmt::Write>(&self, f: &mut fmt::Formatter<W>) -> fmt::Result {
         match self {
             JudgeError::Refused(refusal) => write!(f, "no recipe file: {refusal}"),

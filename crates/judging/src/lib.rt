@@ -7,9 +7,9 @@ mod showing;
 
 pub use deciding::judge;
 pub use errors::JudgeError;
-pub use showing::printed;
 use inquiry::Report;
 use recipe::Refusal;
+pub use showing::printed;
 use std::alloc::Global;
 
 // What an inquiry under one rule comes to: its report, and the trace of the first bad fact, or why there is none.

@@ -4,12 +4,22 @@ ghost use Rattle.std.specs.Fmt.{DisplaysOnOk};
 ghost use Rattle.std.specs.String.{string_bytes};
 ghost use Rattle.judging.specs.declared.errors.JudgeError.TheVariants.{OutOfMemory};
 ghost use Rattle.judging.specs.Judged.{shown};
-ghost use Rattle.judging.specs.Printed.{line_text, lines_text, text_of};
+ghost use Rattle.judging.specs.Printed.{nodes_text, line_text, lines_text, text_of};
 
 use crate::{Finding, JudgeError, Judgement, judge};
 use recipe::Refusal;
 use std::alloc::Global;
 use std::fmt;
+
+// Each node of a list, with a blank before it.
+fn write_nodes<W: fmt::Write>(f: &mut fmt::Formatter<W>, nodes: &[u32]) -> fmt::Result
+    ensures { DisplaysOnOk W.write_str_gives f.old result (Some (nodes_text nodes.now)) f.new }
+{
+    for node in nodes {
+        write!(f, " {node}")?;
+    }
+    Ok(())
+}
 
 // What one rule comes to, as a line: with the trace, or how long it is.
 fn write_line<W: fmt::Write>(
@@ -25,10 +35,7 @@ fn write_line<W: fmt::Write>(
     match &finding.trace {
         Ok(nodes) => {
             f.write_str(" trace")?;
-            for node in nodes {
-                write!(f, " {node}")?;
-            }
-            Ok(())
+            write_nodes(f, nodes)
         }
         Err(Refusal::LongTrace { length }) => write!(f, " long {length}"),
         Err(_) => Ok(()),
