@@ -8,14 +8,22 @@ use Rattle.recipe.specs.declared.grounds.Refusal.TheVariants.{TooMany, UnfitTabl
 use Rattle.recipe.specs.Recipes.{file_of, program, own_edges}
 use Rattle.recipe.proofs.Standing.{edges_count, rows_count}
 use Rattle.model.specs.Access.{Rule, history, stack_inspection}
+use Rattle.model.specs.Agreement.{RunTrace}
 use Rattle.model.specs.Facts.{Setting}
+use Rattle.model.specs.Lawful.{Lawful, EdgesObey}
+use Rattle.model.specs.Models.{HistoryTrace, StackTrace, LeavesBad}
+use Rattle.model.specs.declared.Edge.{Edge}
+use Rattle.model.proofs.Agreeing.{history_agrees, stack_agrees, bad_run, bad_trace}
+use Rattle.model.proofs.Edges.{lawful_counted}
+use Rattle.model.proofs.Standing.{edges_obey}
 use Rattle.model.specs.Program.{Program, counted}
 use Rattle.model.specs.Searches.{BadTrace}
 use Rattle.model.specs.Tables.{Search, capped, dug, opened, verdict_of}
 use Rattle.model.specs.declared.Verdict.TheVariants.{Unsafe}
-use Rattle.model.specs.Watches.{table_watch}
+use Rattle.model.specs.Watches.{Watch, table_watch}
 use Rattle.recipe.specs.Bytes.{program_of, edges_of}
-use Rattle.recipe.specs.Format.{Legal as LegalFile}
+use Rattle.recipe.specs.Format.{bytes_of, Legal as LegalFile}
+use Rattle.recipe.proofs.ReadBack.{read_program, read_edges}
 use Rattle.inquiry.specs.Calls.{Allowed, answered, unless, counts_fit, tables_fit, report_of, trace_output}
 use Rattle.inquiry.specs.Promises.{Comes}
 use Rattle.inquiry.proofs.Wholes.{comes_so}
@@ -49,6 +57,14 @@ module _ (r : Recipe) where
       let tables : tables_fit (length (own_edges r)) 1024 4096 ≡ true = ap (λ b. b && true) edges_fit in
       let answer : Bool → Bool → Allowed = λ c t. cond c (cond t (Ok tt) (Err UnfitTable)) (Err TooMany) in
       λ i. answer (counts i) (tables i)
+
+-- what a legal file says is lawful
+legal_lawful : (bs : List ℕ) → LegalFile bs → Lawful (program_of bs) (edges_of bs)
+legal_lawful bs legal =
+    let p = legal.0 in
+    let es = legal.1 in
+    subst (λ b. Lawful (program_of b) (edges_of b)) (sym legal.3)
+    (subst (λ q. Lawful q (edges_of (bytes_of p es))) (sym (read_program p es legal.2)) (subst (Lawful p) (sym (read_edges p es legal.2)) legal.2))
 
 -- what is found of a file under a rule
 module _ (rule : Program → Rule) (bs : List ℕ) where
@@ -116,9 +132,29 @@ module _ (rule : Program → Rule) (bs : List ℕ) where
       nothing other (inl none) = ap (written_to (after C all_asked).output) none
       nothing other (inr says) = absurd (other (said_so says))
 
-  -- what is found is right
-  pub right_so : RightOf rule bs (found_in rule bs)
-  right_so = (subst (λ (s : Search). Comes X 1024 1024 worked (report_of C.watch s)) (sym search_is) (comes_so X 1024 1024), shows_so)
+  comes_here : Comes X 1024 1024 worked (found_in rule bs).report
+  comes_here = subst (λ (s : Search). Comes X 1024 1024 worked (report_of C.watch s)) (sym search_is) (comes_so X 1024 1024)
+
+  -- what is found is right, of runs and of the traces of the model that the rule agrees with
+  pub right_so : (Traces : Program → List Edge → List ℕ → Type 0) → LegalFile bs → ((p : Program) (own es : List Edge) (W : Watch) (t : List ℕ) → Lawful p own → EdgesObey p es → (Traces p es t → RunTrace p es (rule p) W t) × (RunTrace p es (rule p) W t → Traces p es t))
+      → RightOf rule Traces bs (found_in rule bs)
+  right_so Traces legal agrees = record { comes = comes_here; shows = shows_so; by_model = record { safe = λ e t h bad. comes_here.means.safe e (bad_run X (Traces X.program X.edges) agrees_here t (along t h) bad); unsafe = λ e. by (shows_so.unsafe e) } }
+    where
+      law : Lawful (program_of bs) (edges_of bs)
+      law = legal_lawful bs legal
+
+      edges_are : X.edges ≡ edges_of bs
+      edges_are = lawful_counted (program_of bs) (edges_of bs) law
+
+      agrees_here : (t : List ℕ) → (Traces X.program X.edges t → RunTrace X.program X.edges X.rule X.watch t) × (RunTrace X.program X.edges X.rule X.watch t → Traces X.program X.edges t)
+      agrees_here t = agrees (program_of bs) (edges_of bs) X.edges X.watch t law (subst (EdgesObey (program_of bs)) (sym edges_are) (edges_obey (program_of bs) (edges_of bs) law))
+
+      along : (t : List ℕ) → Traces (program_of bs) (edges_of bs) t → Traces X.program X.edges t
+      along t h = subst (λ es. Traces (program_of bs) es t) (sym edges_are) h
+
+      by : (t : List ℕ) × BadTrace X t × (((found_in rule bs).trace ≡ Ok t) ⊎ (((found_in rule bs).trace ≡ Err (LongTrace (capped (length t)))) × (1024 < length t)))
+          → (t : List ℕ) × Traces (program_of bs) (edges_of bs) t × LeavesBad (program_of bs) (table_watch (program_of bs).rows) t × (((found_in rule bs).trace ≡ Ok t) ⊎ (((found_in rule bs).trace ≡ Err (LongTrace (capped (length t)))) × (1024 < length t)))
+      by s = let h = bad_trace X (Traces X.program X.edges) agrees_here s.0 s.1 in (s.0, subst (λ es. Traces (program_of bs) es s.0) edges_are h.0, h.1, s.2)
 
 -- what a call that is refused, and one that answers, was
 pub refused_so : {A : Type 0} (o : Allowed) (a : A) (e : Refusal) → Err e ≡ answered o a → o ≡ Err e
@@ -131,7 +167,11 @@ answered_so (Err f) a x h = search rules
 
 -- what is found under both rules is right
 pub both_right : (bs : List ℕ) (j : Judgement) → LegalFile bs → shown j.history ≡ found_in history bs → shown j.stack ≡ found_in stack_inspection bs → Tells bs (Ok j)
-both_right bs j legal one two = (legal, subst (RightOf history bs) (sym one) (right_so history bs), subst (RightOf stack_inspection bs) (sym two) (right_so stack_inspection bs))
+both_right bs j legal one two = (
+  legal,
+  subst (RightOf history HistoryTrace bs) (sym one) (right_so history bs HistoryTrace legal history_agrees),
+  subst (RightOf stack_inspection StackTrace bs) (sym two) (right_so stack_inspection bs StackTrace legal stack_agrees),
+)
 
 -- an inquiry whose tables fit fails only for want of memory, and then the file is legal all the same
 fails : (rule : Program → Rule) (bs : List ℕ) (e : JudgeError) → fit_of (case_in rule bs) ≡ Ok tt → Finds rule bs (Err e) → judgement_of bs ≡ Ok (both_in bs) → LegalFile bs → Answers bs (Err e) × Tells bs (Err e)

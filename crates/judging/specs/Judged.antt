@@ -4,11 +4,13 @@ use Rattle.std.specs.declared.vec.Vec.{Vec}
 use Rattle.std.specs.declared.alloc.Global.{Global}
 use Rattle.model.specs.Access.{Rule, history, stack_inspection}
 use Rattle.model.specs.Facts.{Setting}
+use Rattle.model.specs.Models.{HistoryTrace, StackTrace, LeavesBad}
 use Rattle.model.specs.Program.{Program}
 use Rattle.model.specs.Searches.{BadTrace}
 use Rattle.model.specs.Tables.{Search, capped, opened, dug}
 use Rattle.model.specs.Watches.{table_watch}
-use Rattle.model.specs.declared.Verdict.TheVariants.{Unsafe}
+use Rattle.model.specs.declared.Edge.{Edge}
+use Rattle.model.specs.declared.Verdict.TheVariants.{Safe, Unsafe}
 use Rattle.recipe.specs.Bytes.{program_of, edges_of}
 use Rattle.recipe.specs.Format.{Legal as LegalFile}
 use Rattle.recipe.specs.Offence.{first_offence, take_tests, check_tests}
@@ -102,12 +104,20 @@ pub record Shows (X : Setting) (f : Found) : Type 0 where
   pub unsafe : f.report.verdict ≡ Unsafe → (t : List ℕ) × BadTrace X t × ((f.trace ≡ Ok t) ⊎ ((f.trace ≡ Err (LongTrace (capped (length t)))) × (1024 < length t)))
   pub none : f.report.verdict ≢ Unsafe → f.trace ≡ Err NotUnsafe
 
--- what is found is right, of every run of the recipe under that rule
-abbrev pub RightOf : (Program → Rule) → List ℕ → Found → Type 0
-RightOf rule bs f = Comes (setting_in rule bs) 1024 1024 (dug (setting_in rule bs) 1024 1024 (opened (setting_in rule bs) 1024)) f.report × Shows (setting_in rule bs) f
+-- the same with no word of runs, said of the traces that a transition system has: safe, none of them leaves the watch of the recipe's rows bad; unsafe, one does, and it is there, or has more than 1,024 nodes
+pub record ByModel (Traces : Program → List Edge → List ℕ → Type 0) (bs : List ℕ) (f : Found) : Type 0 where
+  pub safe : f.report.verdict ≡ Safe → (t : List ℕ) → Traces (program_of bs) (edges_of bs) t → LeavesBad (program_of bs) (table_watch (program_of bs).rows) t → ⊥
+  pub unsafe : f.report.verdict ≡ Unsafe
+      → (t : List ℕ) × Traces (program_of bs) (edges_of bs) t × LeavesBad (program_of bs) (table_watch (program_of bs).rows) t × ((f.trace ≡ Ok t) ⊎ ((f.trace ≡ Err (LongTrace (capped (length t)))) × (1024 < length t)))
+
+-- what is found is right, of every run of the recipe under that rule, and of every trace of the transition system that models it
+pub record RightOf (rule : Program → Rule) (Traces : Program → List Edge → List ℕ → Type 0) (bs : List ℕ) (f : Found) : Type 0 where
+  pub comes : Comes (setting_in rule bs) 1024 1024 (dug (setting_in rule bs) 1024 1024 (opened (setting_in rule bs) 1024)) f.report
+  pub shows : Shows (setting_in rule bs) f
+  pub by_model : ByModel Traces bs f
 
 -- what an answer tells: the file is legal, and what is found is right under each rule; or the file is not legal
 abbrev pub Tells : List ℕ → Result Judgement JudgeError → Type 0
-Tells bs (Ok j) = LegalFile bs × RightOf history bs (shown j.history) × RightOf stack_inspection bs (shown j.stack)
+Tells bs (Ok j) = LegalFile bs × RightOf history HistoryTrace bs (shown j.history) × RightOf stack_inspection StackTrace bs (shown j.stack)
 Tells bs (Err (Refused e)) = LegalFile bs → ⊥
 Tells bs (Err OutOfMemory) = LegalFile bs

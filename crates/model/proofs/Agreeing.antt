@@ -1,5 +1,5 @@
 -- Runs under history and under stack inspection have the traces of the two models: a frame stands for a state, and a step of a run for a step of the model.
-use Rattle.std.proofs.Common.{◌≡◌, ℕ, ◌<◌, ◌≤◌, Bool, true, false, cond, ◌&&◌, ltb, ◌⊎◌, List, [], ◌∷◌, map, length, sym, refl, ap, ◌∙◌, subst, ap₂, inl, inr, arith}
+use Rattle.std.proofs.Common.{◌≡◌, ℕ, ◌<◌, ◌≤◌, Bool, true, false, cond, ◌&&◌, ltb, ◌⊎◌, List, [], ◌∷◌, map, reverse, length, sym, refl, ap, ◌∙◌, subst, ap₂, inl, inr, arith}
 use lib.Bits.{bit_or, and_le_l, and_le_r}
 use Rattle.std.proofs.lemmas.List.{get_or_past}
 use Rattle.std.proofs.lemmas.Bool.{false≢true, and_parts, and_from, ltb-true, lt-ltb, cases_lt, cond-true, cond_both}
@@ -8,12 +8,15 @@ use Rattle.model.specs.declared.Frame.{Frame}
 use Rattle.model.specs.declared.Kind.{Kind}
 use Rattle.model.specs.declared.Kind.TheVariants.{Nop, Call, Check, Return}
 use Rattle.model.specs.Access.{Rule, is_entry_of, is_check, call_enters, call_returns, callee_of, asks_first, asks_enter, asks_pass, asks_back, rights_count, holds, grant_of, accept_of, privileged_of, required_of, history_enter, history_back, stack_enter, set_first, set_pass, callee_rights, history, stack_inspection}
-use Rattle.model.specs.Agreement.{HistoryAgrees, StackAgrees}
-use Rattle.model.specs.Lawful.{Lawful}
+use Rattle.model.specs.Agreement.{RunTrace, HistoryAgrees, StackAgrees}
+use Rattle.model.specs.Facts.{Setting, RunGoesBad}
+use Rattle.model.specs.Lawful.{Lawful, EdgesObey}
 use Rattle.model.specs.Program.{Program, no_method, method_at, node_at, rights_of, is_return}
-use Rattle.model.specs.Models.{Rights, State, rights_in, union, meet, Subset, static, static_of, HistoryStep, StackStep, Chain, begin, more}
+use Rattle.model.specs.Models.{Rights, State, rights_in, union, meet, Subset, static, static_of, HistoryStep, StackStep, Chain, begin, more, LeavesBad}
 use Rattle.model.specs.Runs.{Run, Leads, goes_on, is_call, returns_at, reads}
+use Rattle.model.specs.Searches.{BadTrace}
 use Rattle.model.specs.Watches.{Watch}
+use Rattle.model.proofs.Determined.{run_state}
 use Rattle.model.proofs.RightSets.{rights_or, rights_and, holds_subset, subset_holds}
 use Rattle.model.proofs.Standing.{Standing, Bounded, Valued, run_standing, run_values, standing_returns}
 
@@ -43,9 +46,9 @@ record Alike (p : Program) (es : List Edge) (R : Rule) (Step : List State → Li
   there : {f g : Frame} {fs gs : List Frame} → Sound p R (f ∷ fs) → Move p es R f fs g gs → Step (map state_at (f ∷ fs)) (map state_at (g ∷ gs))
   back : (f : Frame) (fs : List Frame) {c d : List State} → Sound p R (f ∷ fs) → c ≡ map state_at (f ∷ fs) → Step c d → Onward p es R f fs d
 
-module _ (p : Program) (es : List Edge) (R : Rule) (W : Watch) (law : Lawful p es) where
+module _ (p : Program) (es : List Edge) (R : Rule) (W : Watch) (obey : EdgesObey p es) where
   sound : {t : List ℕ} {fs : List Frame} {q : ℕ} → Bounded R → Run p es R W t fs q → Sound p R fs
-  sound low r = (run_standing p es R W law r, run_values p es R W low r)
+  sound low r = (run_standing p es R W obey r, run_values p es R W low r)
 
   -- a run goes on by a step
   moved : {t : List ℕ} {f g : Frame} {fs gs : List Frame} {q : ℕ} → Run p es R W t (f ∷ fs) q → Move p es R f fs g gs → Run p es R W (g.node ∷ t) (g ∷ gs) (W.step q (reads p g.node))
@@ -263,18 +266,18 @@ module _ (p : Program) (es : List Edge) where
   history_back_lem f fs sd e (HistoryStep.check {n} {m} {required} {C} {ξ} k sub l) = on_check p es (history_e p) (history_b p) f fs n m required C ξ sd.1.0 e k sub l
   history_back_lem f fs sd e (HistoryStep.nop {n} {m} {C} {ξ} k l) = on_nop p es (history_e p) (history_b p) f fs n m C ξ e k l
 
-  history_alike : Lawful p es → Alike p es (history p) (HistoryStep p es)
-  history_alike law = record {
-    bounded = set_bounded p (history_e p) (history_b p) es law (λ c n. and_le_r (bit_or c (grant_of (node_at p n).kind)) (callee_rights p n)) (λ c n u. and_le_l c (bit_or u (accept_of (node_at p n).kind)));
+  history_alike : (own : List Edge) → Lawful p own → Alike p es (history p) (HistoryStep p es)
+  history_alike own law = record {
+    bounded = set_bounded p (history_e p) (history_b p) own law (λ c n. and_le_r (bit_or c (grant_of (node_at p n).kind)) (callee_rights p n)) (λ c n u. and_le_l c (bit_or u (accept_of (node_at p n).kind)));
     firsts = λ n h. cond-true (asks_first p n) (method_at p 0).rights 0 h;
     there = history_there;
     back = history_back_lem;
   }
 
 pub history_agrees : HistoryAgrees
-history_agrees p es W t law = (
-  λ h. let r = chain_run p es (history p) W law (HistoryStep p es) (history_alike p es law) h.1 in (r.0, r.1, r.2),
-  λ r. (map state_at r.0, run_chain p es (history p) W law (HistoryStep p es) (history_alike p es law) r.2),
+history_agrees p own es W t law obey = (
+  λ h. let r = chain_run p es (history p) W obey (HistoryStep p es) (history_alike p es own law) h.1 in (r.0, r.1, r.2),
+  λ r. (map state_at r.0, run_chain p es (history p) W obey (HistoryStep p es) (history_alike p es own law) r.2),
 )
 
 -- stack inspection: the same
@@ -336,16 +339,26 @@ module _ (p : Program) (es : List Edge) where
   stack_back f fs sd e (StackStep.check {n} {m} {required} {C} {ξ} k sub l) = on_check p es (stack_e p) stack_b f fs n m required C ξ sd.1.0 e k sub l
   stack_back f fs sd e (StackStep.nop {n} {m} {C} {ξ} k l) = on_nop p es (stack_e p) stack_b f fs n m C ξ e k l
 
-  stack_alike : Lawful p es → Alike p es (stack_inspection p) (StackStep p es)
-  stack_alike law = record {
-    bounded = set_bounded p (stack_e p) stack_b es law (λ c n. and_le_r (cond (privileged_of (node_at p n).kind) (rights_of p n) c) (callee_rights p n)) (λ c n u. omega arith);
+  stack_alike : (own : List Edge) → Lawful p own → Alike p es (stack_inspection p) (StackStep p es)
+  stack_alike own law = record {
+    bounded = set_bounded p (stack_e p) stack_b own law (λ c n. and_le_r (cond (privileged_of (node_at p n).kind) (rights_of p n) c) (callee_rights p n)) (λ c n u. omega arith);
     firsts = λ n h. cond-true (asks_first p n) (method_at p 0).rights 0 h;
     there = stack_there;
     back = stack_back;
   }
 
 pub stack_agrees : StackAgrees
-stack_agrees p es W t law = (
-  λ h. let r = chain_run p es (stack_inspection p) W law (StackStep p es) (stack_alike p es law) h.1 in (r.0, r.1, r.2),
-  λ r. (map state_at r.0, run_chain p es (stack_inspection p) W law (StackStep p es) (stack_alike p es law) r.2),
+stack_agrees p own es W t law obey = (
+  λ h. let r = chain_run p es (stack_inspection p) W obey (StackStep p es) (stack_alike p es own law) h.1 in (r.0, r.1, r.2),
+  λ r. (map state_at r.0, run_chain p es (stack_inspection p) W obey (StackStep p es) (stack_alike p es own law) r.2),
 )
+
+-- where the traces of a model are those of runs, a trace that leaves the watch bad is that of a bad run, and the other way round
+module _ (X : Setting) (Traces : List ℕ → Type 0) (agrees : (t : List ℕ) → (Traces t → RunTrace X.program X.edges X.rule X.watch t) × (RunTrace X.program X.edges X.rule X.watch t → Traces t)) where
+  pub bad_run : (t : List ℕ) → Traces t → LeavesBad X.program X.watch t → RunGoesBad X
+  bad_run t h bad =
+      let r = (agrees t).0 h in
+      (reverse t, r.0, r.1, r.2, ap X.watch.bad (sym (run_state X.program X.edges X.rule X.watch r.2)) ∙ bad)
+
+  pub bad_trace : (t : List ℕ) → BadTrace X t → Traces t × LeavesBad X.program X.watch t
+  bad_trace t b = ((agrees t).1 (b.0, b.1, b.2), ap X.watch.bad (run_state X.program X.edges X.rule X.watch b.2) ∙ b.3)

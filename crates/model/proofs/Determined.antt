@@ -6,6 +6,7 @@ use Rattle.model.specs.declared.Frame.{Frame}
 use Rattle.model.specs.declared.Kind.{Kind}
 use Rattle.model.specs.declared.Kind.TheVariants.{Nop, Call, Check, Return}
 use Rattle.model.specs.Access.{Rule, call_enters}
+use Rattle.model.specs.Models.{state_after}
 use Rattle.model.specs.Program.{Program, node_at, is_return}
 use Rattle.model.specs.Runs.{Run, start, pass, enter, back, reads, goes_on, FollowsFromTrace}
 use Rattle.model.specs.Watches.{Watch}
@@ -23,14 +24,10 @@ abbrev pub next_frames : Program → Rule → List Frame → ℕ → List Frame
 next_frames p R [] m = record { node = m; value = R.first m } ∷ []
 next_frames p R (f ∷ fs) m = frames_after R (node_at p f.node).kind f fs m
 
--- the frames, and the watch's state, that the nodes of a trace lead to, the last node first
+-- the frames that the nodes of a trace lead to, the last node first
 abbrev pub frames_of : Program → Rule → List ℕ → List Frame
 frames_of p R [] = []
 frames_of p R (m ∷ t) = next_frames p R (frames_of p R t) m
-
-abbrev pub state_of : Program → Watch → List ℕ → ℕ
-state_of p W [] = W.start
-state_of p W (m ∷ t) = W.step (state_of p W t) (reads p m)
 
 -- what a node of each kind may do fits only one of the ways on
 pub goes_on_frames : (R : Rule) (k : Kind) (n v : ℕ) (fs : List Frame) (m : ℕ) → goes_on R k n v ≡ true → frames_after R k (record { node = n; value = v }) fs m ≡ record { node = m; value = v } ∷ fs
@@ -62,7 +59,7 @@ module _ (p : Program) (es : List Edge) (R : Rule) (W : Watch) where
   run_frames (back {x = x} {u = u} {n = n} {v = v} {fs = fs} m r a b l) =
       ap (λ gs. next_frames p R gs m) (run_frames r) ∙ returns_frames R (node_at p x).kind x u n v fs m (and_parts (ltb x (length p.nodes)) (is_return (node_at p x).kind) a).1
 
-  pub run_state : {t : List ℕ} {fs : List Frame} {q : ℕ} → Run p es R W t fs q → state_of p W t ≡ q
+  pub run_state : {t : List ℕ} {fs : List Frame} {q : ℕ} → Run p es R W t fs q → state_after p W t ≡ q
   run_state (start a) = refl
   run_state (pass m r g l) = ap (λ s. W.step s (reads p m)) (run_state r)
   run_state (enter m r g) = ap (λ s. W.step s (reads p m)) (run_state r)

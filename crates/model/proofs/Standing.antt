@@ -7,14 +7,14 @@ use Rattle.model.specs.declared.Frame.{Frame}
 use Rattle.model.specs.declared.Kind.{Kind}
 use Rattle.model.specs.declared.Kind.TheVariants.{Nop, Call, Check, Return}
 use Rattle.model.specs.Access.{Rule, is_entry_of, is_return_of, call_enters, call_returns, callee_of}
-use Rattle.model.specs.Lawful.{Lawful}
+use Rattle.model.specs.Lawful.{Lawful, EdgesObey}
 use Rattle.model.specs.Program.{Program, node_at, no_edge, home, is_return, EdgeRules}
-use Rattle.model.specs.Runs.{Run, start, pass, enter, back, Leads, is_call, returns_at}
+use Rattle.model.specs.Runs.{Run, start, pass, enter, back, is_call, returns_at}
 use Rattle.model.specs.Watches.{Watch}
 
--- what an edge that leads somewhere keeps to
-pub leads_rules : (p : Program) (es : List Edge) (n m : ℕ) → Lawful p es → Leads es n m → EdgeRules p (record { from = n; to = m })
-leads_rules p es n m law h = subst (EdgeRules p) (h.2 no_edge) (law.edge h.0 h.1)
+-- the edges of a lawful program obey the rules
+pub edges_obey : (p : Program) (es : List Edge) → Lawful p es → EdgesObey p es
+edges_obey p es law e h = subst (EdgeRules p) (h.2 no_edge) (law.edge h.0 h.1)
 
 -- an entry of a method is a node of it
 pub entry_home : (p : Program) (k n : ℕ) → is_entry_of p k n ≡ true → home p.methods n ≡ k
@@ -46,13 +46,13 @@ abbrev pub Standing : Program → List Frame → Type 0
 Standing p [] = ⊥
 Standing p (f ∷ fs) = Called p fs (home p.methods f.node)
 
-pub run_standing : (p : Program) (es : List Edge) (R : Rule) (W : Watch) {t : List ℕ} {fs : List Frame} {q : ℕ} → Lawful p es → Run p es R W t fs q → Standing p fs
-run_standing p es R W law (start {n} a) = entry_home p 0 n a
-run_standing p es R W law (pass {n = n} {fs = fs} m r g l) = subst (Called p fs) (leads_rules p es n m law l).stays (run_standing p es R W law r)
-run_standing p es R W law (enter {n = n} m r g) =
+pub run_standing : (p : Program) (es : List Edge) (R : Rule) (W : Watch) {t : List ℕ} {fs : List Frame} {q : ℕ} → EdgesObey p es → Run p es R W t fs q → Standing p fs
+run_standing p es R W obey (start {n} a) = entry_home p 0 n a
+run_standing p es R W obey (pass {n = n} {fs = fs} m r g l) = subst (Called p fs) (obey (record { from = n; to = m }) l).stays (run_standing p es R W obey r)
+run_standing p es R W obey (enter {n = n} m r g) =
     let c = enters_call p (node_at p n).kind m g in
-    (c.0, sym (entry_home p (callee_of (node_at p n).kind) m c.1), run_standing p es R W law r)
-run_standing p es R W law (back {n = n} {fs = fs} m r a b l) = subst (Called p fs) (leads_rules p es n m law l).stays (run_standing p es R W law r).2
+    (c.0, sym (entry_home p (callee_of (node_at p n).kind) m c.1), run_standing p es R W obey r)
+run_standing p es R W obey (back {n = n} {fs = fs} m r a b l) = subst (Called p fs) (obey (record { from = n; to = m }) l).stays (run_standing p es R W obey r).2
 
 -- where a run returns, it does so from the callee of the call below
 pub standing_returns : (p : Program) (x n : ℕ) (u v : ℕ) (fs : List Frame) → Standing p (record { node = x; value = u } ∷ record { node = n; value = v } ∷ fs) → returns_at p x ≡ true → call_returns p (node_at p n).kind x ≡ true

@@ -1,5 +1,6 @@
 -- The rules of a recipe, in its own words: which programs and edges a recipe may have.
 use Rattle.std.specs.Prelude.{◌≡◌, ℕ, suc, ◌<◌, ◌≤◌, true, ◌⊎◌, List, length, slice_index, slice_index_or}
+use Rattle.std.specs.List.{ContainsAt as Has}
 use Rattle.model.specs.declared.Edge.{Edge}
 use Rattle.model.specs.declared.Kind.{Kind}
 use Rattle.model.specs.declared.Kind.TheVariants.{Nop, Call, Check, Return}
@@ -46,3 +47,7 @@ pub record Lawful (p : Program) (es : List Edge) : Type 0 where
   pub edge : (i : ℕ) → i < length es → EdgeRules p (slice_index_or es i no_edge)
   pub rising : (i : ℕ) → suc i < length es → Rises (slice_index_or es i no_edge) (slice_index_or es (suc i) no_edge)
   pub row : (i : ℕ) → i < length p.rows → RowRules p (slice_index_or p.rows i no_row)
+
+-- each edge of a list is one by the rules, in whatever order they are: a recipe's edges with links added are such a list
+abbrev pub EdgesObey : Program → List Edge → Type 0
+EdgesObey p es = (e : Edge) → Has es e → EdgeRules p e

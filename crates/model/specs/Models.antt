@@ -5,6 +5,7 @@ use Rattle.model.specs.declared.Kind.TheVariants.{Nop, Call, Check, Return}
 use Rattle.model.specs.Access.{is_entry_of}
 use Rattle.model.specs.Program.{Program, method_at, node_at, home}
 use Rattle.model.specs.Runs.{Leads}
+use Rattle.model.specs.Watches.{Watch}
 
 -- a set of rights, by which rights it has
 abbrev pub Rights : Type 0
@@ -70,3 +71,12 @@ HistoryTrace p es t = (c : List State) × Chain p (HistoryStep p es) (reverse t)
 
 abbrev pub StackTrace : Program → List Edge → List ℕ → Type 0
 StackTrace p es t = (c : List State) × Chain p (StackStep p es) (reverse t) c
+
+-- the watch's state after the nodes of a trace, the last one first: it reads the mark of each
+abbrev pub state_after : Program → Watch → List ℕ → ℕ
+state_after p W [] = W.start
+state_after p W (m ∷ t) = W.step (state_after p W t) (node_at p m).mark
+
+-- the nodes of a trace, in order, leave the watch bad
+abbrev pub LeavesBad : Program → Watch → List ℕ → Type 0
+LeavesBad p W t = W.bad (state_after p W (reverse t)) ≡ true
