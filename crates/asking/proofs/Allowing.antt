@@ -12,11 +12,6 @@ use Rattle.recipe.specs.declared.grounds.Refusal.TheVariants.{NotAnEdge, EdgeHel
 use Rattle.inquiry.specs.Calls.{Allowed, link_allowed, trace_length, trace_allowed, trace_output}
 use Rattle.asking.specs.Histories.{Opened, Standing}
 
--- what holds where a call is allowed and where it is refused holds
-pub by_allowed : (P : Allowed → Type 0) (o : Allowed) → P (Ok tt) → ((why : Refusal) → P (Err why)) → P o
-by_allowed P (Ok u) passed refused = passed
-by_allowed P (Err why) passed refused = refused why
-
 -- the standing with an accepted link, and with the trace written
 abbrev pub linked_at : Opened → Standing → Edge → Standing
 linked_at C s e = record { edges = linked C.program s.edges e; search = unworked s.search; output = s.output }

@@ -1,6 +1,6 @@
 -- Requests are carried out one after another: what the inquiry, the tables and the record are after so many of them.
-use Rattle.std.proofs.Common.{◌≡◌, ℕ, zero, suc, ◌+◌, ◌-◌, ◌<◌, ◌≤◌, List, [], ◌∷◌, ◌++◌, map, length, get_or, take, drop, set, Ok, Err, Result, sym, refl, ap, ◌∙◌, subst, arith}
-use Rattle.std.proofs.lemmas.List.{append_assoc, map-append, length-map, length-drop, length-take-le, take-append-drop, take_more, drop_more, take_at, drop_at, set_at, take_all}
+use Rattle.std.proofs.Common.{◌≡◌, ℕ, zero, suc, ◌+◌, ◌<◌, ◌≤◌, List, [], ◌∷◌, ◌++◌, map, length, get_or, take, drop, set, Ok, Err, Result, sym, refl, ap, ◌∙◌, subst, arith}
+use Rattle.std.proofs.lemmas.List.{append_assoc, map-append, length-map, length-drop, length-take-le, take-append-drop, drop_more, take_at, drop_at, set_at, take_all}
 use Rattle.model.specs.declared.Edge.{Edge}
 use Rattle.model.specs.declared.Fact.{Fact}
 use Rattle.model.specs.Access.{Rule}
@@ -22,18 +22,8 @@ use Rattle.asking.specs.declared.requests.Reply.{Reply}
 use Rattle.asking.specs.Asked.{opened_on, fit_of, recorded}
 use Rattle.asking.specs.Made.{Stands, Void, Made}
 use Rattle.asking.specs.Histories.{Opened, Standing, with_table, begun, step, after, replies, replies_from, after_from}
+use Rattle.model.proofs.Nexts.{next_lt, next_taken}
 use Rattle.asking.proofs.Going.{after_more, record_grows}
-
--- the next of what is left of a list
-module _ {A : Type 0} (xs : List A) (k : ℕ) (x : A) (rest : List A) (next : drop k xs ≡ x ∷ rest) where
-  pub next_lt : k < length xs
-  next_lt = let n : length xs - k ≡ length (x ∷ rest) = sym (length-drop k xs) ∙ ap length next in omega arith
-
-  pub next_rest : rest ≡ drop (k + 1) xs
-  next_rest = ap (drop 1) (sym next ∙ drop_more xs k x next_lt)
-
-  pub next_taken : take (k + 1) xs ≡ take k xs ++ x ∷ []
-  next_taken = take_more xs k x next_lt ∙ ap (λ y. take k xs ++ y ∷ []) (ap (λ ys. get_or ys 0 x) (sym (drop_more xs k x next_lt) ∙ next))
 
 -- nothing is left of a front that is empty, or whose list is
 pub front_none : {A : Type 0} (n : ℕ) (xs : List A) → (0 < n → length xs ≡ 0) → take n xs ≡ []

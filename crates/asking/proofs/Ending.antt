@@ -12,7 +12,8 @@ use Rattle.asking.specs.declared.requests.Request.TheVariants.{Dig, Link, Verdic
 use Rattle.asking.specs.declared.requests.Reply.TheVariants.{Linked}
 use Rattle.asking.specs.Histories.{Opened, with_table, Standing, begun, may_link, may_trace, answer, step, after_from, replies_from, accepted_one, accepted, after, links}
 use Rattle.asking.specs.Law.{Says}
-use Rattle.asking.proofs.Allowing.{by_allowed, linked_at, traced_at}
+use Rattle.inquiry.proofs.Allowed.{by_allowed}
+use Rattle.asking.proofs.Allowing.{linked_at, traced_at}
 use Rattle.asking.proofs.Going.{after_more, accepted_more}
 use Rattle.asking.proofs.Judging.{pending_if_unfinished, said}
 use Rattle.asking.proofs.Keeping.{keeps}

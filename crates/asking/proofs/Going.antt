@@ -10,7 +10,8 @@ use Rattle.asking.specs.declared.requests.Request.{Request}
 use Rattle.asking.specs.declared.requests.Request.TheVariants.{Dig, Link, Verdict, Trace}
 use Rattle.asking.specs.declared.requests.Reply.TheVariants.{Linked, Traced}
 use Rattle.asking.specs.Histories.{Opened, Standing, with_table, begun, may_link, may_trace, answer, step, after_from, replies_from, accepted_one, accepted, after, asked, replies}
-use Rattle.asking.proofs.Allowing.{by_allowed, linked_at, traced_at}
+use Rattle.inquiry.proofs.Allowed.{by_allowed}
+use Rattle.asking.proofs.Allowing.{linked_at, traced_at}
 
 -- a dig and then another come to what one dig of both comes to
 dug_more : (X : Setting) (places j k : ℕ) (s : Search) → dug X places k (dug X places j s) ≡ dug X places (j + k) s

@@ -23,7 +23,8 @@ use Rattle.asking.specs.declared.requests.Request.TheVariants.{Dig, Link, Verdic
 use Rattle.asking.specs.declared.requests.Reply.{Reply}
 use Rattle.asking.specs.declared.requests.Reply.TheVariants.{Linked}
 use Rattle.asking.specs.Histories.{Opened, with_table, Standing, begun, may_trace, dug_at, answer, step, after_from, replies_from, accepted_one, accepted, after, links}
-use Rattle.asking.proofs.Allowing.{by_allowed, linked_at, traced_at, link_cases}
+use Rattle.inquiry.proofs.Allowed.{by_allowed}
+use Rattle.asking.proofs.Allowing.{linked_at, traced_at, link_cases}
 
 -- one edge is another, as a test
 abbrev pub same_edge : Edge → Edge → Bool

@@ -8,7 +8,8 @@ use Rattle.inquiry.specs.Calls.{unless}
 use Rattle.asking.specs.declared.requests.Request.{Request}
 use Rattle.asking.specs.declared.requests.Request.TheVariants.{Dig, Link, Verdict, Trace}
 use Rattle.asking.specs.Histories.{Opened, with_table, Standing, begun, may_link, may_trace, step, after_from, after}
-use Rattle.asking.proofs.Allowing.{by_allowed, linked_at, traced_at}
+use Rattle.inquiry.proofs.Allowed.{by_allowed}
+use Rattle.asking.proofs.Allowing.{linked_at, traced_at}
 use Rattle.asking.proofs.Going.{after_more}
 
 -- the rows of one standing are those of another, with more behind them

@@ -29,7 +29,8 @@ use Rattle.asking.specs.declared.requests.Reply.TheVariants.{Dug as Dig_done, Li
 use Rattle.asking.specs.Asked.{opened_on, fit_of}
 use Rattle.asking.specs.Made.{Stands, Made}
 use Rattle.asking.specs.Histories.{Opened, Standing, with_table, may_trace, dug_at}
-use Rattle.asking.proofs.Allowing.{by_allowed, link_cases}
+use Rattle.inquiry.proofs.Allowed.{by_allowed}
+use Rattle.asking.proofs.Allowing.{link_cases}
 
 -- a reply is what a call answers, put into a reply
 pub record Puts {A : Type 0} (put : A → Reply) (r : Result A Refusal) (reply : Result Reply Refusal) : Type 0 where

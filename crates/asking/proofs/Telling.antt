@@ -17,7 +17,8 @@ use Rattle.asking.specs.declared.requests.Reply.TheVariants.{Linked, Judged, Tra
 use Rattle.asking.specs.Histories.{Opened, Standing, begun, may_link, may_trace, answer, step, after_from, after, asked, replies_from, replies, accepted, links, linked_recipe}
 use Rattle.asking.specs.Law.{Law, Says, Walks, Shown}
 use Rattle.asking.specs.Recorded.{no_reply, request_at, reply_at, linked_at as linked_then, RecordTells}
-use Rattle.asking.proofs.Allowing.{by_allowed, linked_at}
+use Rattle.inquiry.proofs.Allowed.{by_allowed}
+use Rattle.asking.proofs.Allowing.{linked_at}
 use Rattle.asking.proofs.Carrying.{replies_length}
 use Rattle.asking.proofs.Clauses.{asking_law}
 use Rattle.asking.proofs.Going.{after_more, after_one, replies_more}

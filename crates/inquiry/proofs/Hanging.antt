@@ -5,7 +5,7 @@ use Rattle.std.proofs.lemmas.Iterator.{YieldsList}
 use Rattle.std.proofs.lemmas.List.{length-take-le}
 use Rattle.model.specs.declared.Fact.{Fact}
 use Rattle.model.specs.Facts.{Setting}
-use Rattle.model.specs.Tables.{row_at, capped, first_row, follow_row, enter_row, back_row}
+use Rattle.model.specs.Tables.{row_at, capped, follow_row, enter_row, back_row}
 use Rattle.inquiry.specs.declared.Inquiry.{Inquiry}
 use Rattle.inquiry.specs.declared.placed.Placed.{Placed}
 use Rattle.inquiry.specs.Inquiries.{state_of, IsRow, Grown}
@@ -28,9 +28,6 @@ span_of : (rows : List Fact) (i : ℕ) → span_at rows (i + 1) ≡ (row_at rows
 span_of rows i = ap (span_at rows) (add-one i)
 
 module _ (X : Setting) (rows : List Fact) where
-  pub hangs_first : (n : ℕ) → Hangs rows (first_row X n)
-  hangs_first n = (omega arith, omega arith, refl)
-
   pub hangs_follow : (i : ℕ) (c : Fact) (m : ℕ) → i < length rows → row_at rows i ≡ c → Hangs rows (follow_row X i c m)
   hangs_follow i c m lt is = (omega arith, omega arith, ap (λ (r : Fact). capped (r.span + 1)) (sym is) ∙ (let e = span_of rows i in omega arith))
 

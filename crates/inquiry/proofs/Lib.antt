@@ -1,3 +1,4 @@
+pub mod Allowed
 pub mod Answering
 pub mod Begun
 pub mod Chaining

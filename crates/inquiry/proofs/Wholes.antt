@@ -24,6 +24,7 @@ use Rattle.inquiry.specs.declared.reports.Report.{Report}
 use Rattle.inquiry.specs.Calls.{Allowed, answered, unless, counts_fit, tables_fit, fit_answer, in_use, counts_of, same_counts, void_or, dig_answer, opening_of, report_of}
 use Rattle.inquiry.specs.Inquiries.{state_of, Grown}
 use Rattle.inquiry.specs.Promises.{Right, Comes}
+use Rattle.inquiry.proofs.Allowed.{by_cases}
 use Rattle.inquiry.proofs.Answering.{held_is}
 use Rattle.inquiry.proofs.Growing.{drop_later}
 
@@ -46,11 +47,6 @@ comes_so X places allowed =
       worked = refl;
     }
 
--- what holds of a refusal in both of its cases
-by_refusal : (P : Allowed → Type 0) (o : Allowed) → (Ok tt ≡ o → P (Ok tt)) → ((e : Refusal) → Err e ≡ o → P (Err e)) → P o
-by_refusal P (Ok u) ok err = ok refl
-by_refusal P (Err e) ok err = err e refl
-
 -- a verdict is right
 pub judged_right : (W : Watch) (i : Inquiry) → Right W i (verdict_of W (state_of i))
 judged_right W i X same sound = subst (λ V. Means X i.places (state_of i) (verdict_of V (state_of i))) same (verdict_means X i.places (state_of i) sound)
@@ -59,7 +55,7 @@ judged_right W i X same sound = subst (λ V. Means X i.places (state_of i) (verd
 pub report_right : (W : Watch) (i : Inquiry) (r : Result Report Refusal) → r ≡ answered i.fits (report_of W (state_of i)) → IfOk r (λ report. Right W i report.verdict)
 report_right W i r answer =
     subst (λ a. IfOk a (λ report. Right W i report.verdict)) (sym answer)
-    (by_refusal (λ o. IfOk (answered o (report_of W (state_of i))) (λ report. Right W i report.verdict)) i.fits (λ _. judged_right W i) (λ e _. tt))
+    (by_cases (λ o. IfOk (answered o (report_of W (state_of i))) (λ report. Right W i report.verdict)) i.fits (λ _. judged_right W i) (λ e _. tt))
 
 module _ {R W : Type 0} (meaning : R → Program → Rule) (watching : W → Watch) (on : Subject R W) (facts : List Fact) (edges : List Edge) (allowed : ℕ) where
   abbrev own : List Edge
@@ -110,7 +106,7 @@ module _ {R W : Type 0} (meaning : R → Program → Rule) (watching : W → Wat
 
     -- the search after the dig
     pub comes_to : state_of j ≡ unless fits end empty
-    comes_to = by_refusal (λ o. o ≡ fits → state_of j ≡ unless o end empty) fits (λ none h. fitted none) (λ e some h. void e some) refl
+    comes_to = by_cases (λ o. o ≡ fits → state_of j ≡ unless o end empty) fits (λ none h. fitted none) (λ e some h. void e some) refl
 
     -- the fact table then: the rows, and past them what was there
     pub table_then : Grown i j → drop i.held i.facts.now ≡ drop i.held facts → j.facts.now ≡ unless fits (end.rows ++ drop (length end.rows) facts) facts
@@ -118,16 +114,16 @@ module _ {R W : Type 0} (meaning : R → Program → Rule) (watching : W → Wat
         sym (take-append-drop j.held j.facts.now)
         ∙ ap (λ xs. (state_of j).rows ++ xs) (grown.rest ∙ drop_later i.held j.held i.facts.now facts grown.more rest ∙ ap (λ n. drop n facts) (held_is j))
         ∙ ap (λ (s : Search). s.rows ++ drop (length s.rows) facts) comes_to
-        ∙ by_refusal (λ o. (unless o end empty).rows ++ drop (length (unless o end empty).rows) facts ≡ unless o (end.rows ++ drop (length end.rows) facts) facts) fits (λ _. refl) (λ e _. refl)
+        ∙ by_cases (λ o. (unless o end empty).rows ++ drop (length (unless o end empty).rows) facts ≡ unless o (end.rows ++ drop (length end.rows) facts) facts) fits (λ _. refl) (λ e _. refl)
 
     -- the answer of close
     pub answer_then : (r : Result Report Refusal) → j.fits ≡ i.fits → r ≡ answered j.fits (report_of X.watch (state_of j)) → r ≡ answered fits (report_of X.watch end)
     answer_then r kept closed =
         closed ∙ ap (λ o. answered o (report_of X.watch (state_of j))) (kept ∙ fitting) ∙ ap (λ s. answered fits (report_of X.watch s)) comes_to
-        ∙ by_refusal (λ o. answered o (report_of X.watch (unless o end empty)) ≡ answered o (report_of X.watch end)) fits (λ _. refl) (λ e _. refl)
+        ∙ by_cases (λ o. answered o (report_of X.watch (unless o end empty)) ≡ answered o (report_of X.watch end)) fits (λ _. refl) (λ e _. refl)
 
   -- what the answer tells of runs and of facts
   pub told_then : (r : Result Report Refusal) → r ≡ answered fits (report_of X.watch end) → IfOk r (Comes X (length facts) allowed end)
   told_then r answer =
       subst (λ a. IfOk a (Comes X (length facts) allowed end)) (sym answer)
-      (by_refusal (λ o. IfOk (answered o (report_of X.watch end)) (Comes X (length facts) allowed end)) fits (λ _. comes_so X (length facts) allowed) (λ e _. tt))
+      (by_cases (λ o. IfOk (answered o (report_of X.watch end)) (Comes X (length facts) allowed end)) fits (λ _. comes_so X (length facts) allowed) (λ e _. tt))

@@ -1,5 +1,5 @@
 -- The tables of a judgement fit every recipe, and what is found under both rules is right.
-use Rattle.std.proofs.Common.{◌≡◌, ◌≢◌, ℕ, ◌+◌, ◌<◌, ◌≤◌, Bool, true, cond, ◌&&◌, leb, ◌⊎◌, List, [], ◌∷◌, ◌++◌, length, get_or, take, drop, replicate, Ok, Err, Result, sym, refl, ap, ◌∙◌, subst, inl, inr, rules, arith}
+use Rattle.std.proofs.Common.{◌≡◌, ◌≢◌, ℕ, ◌+◌, ◌<◌, ◌≤◌, Bool, true, cond, ◌&&◌, leb, ◌⊎◌, List, [], ◌++◌, length, get_or, take, drop, Ok, Err, Result, sym, refl, ap, ◌∙◌, subst, inl, inr, rules, arith}
 use Rattle.std.proofs.lemmas.Bool.{le-leb}
 use Rattle.std.proofs.lemmas.List.{append-nil, take_at, length-replicate}
 use Rattle.recipe.specs.declared.Recipe.{Recipe}
@@ -24,23 +24,22 @@ use Rattle.model.specs.Watches.{Watch, table_watch}
 use Rattle.recipe.specs.Bytes.{program_of, edges_of}
 use Rattle.recipe.specs.Format.{bytes_of, Legal as LegalFile}
 use Rattle.recipe.proofs.ReadBack.{read_program, read_edges}
-use Rattle.inquiry.specs.Calls.{Allowed, answered, unless, counts_fit, tables_fit, report_of, trace_output}
+use Rattle.inquiry.specs.Calls.{Allowed, unless, counts_fit, tables_fit, report_of, trace_output}
 use Rattle.inquiry.specs.Promises.{Comes}
+use Rattle.inquiry.proofs.Allowed.{by_allowed}
 use Rattle.inquiry.proofs.Wholes.{comes_so}
 use Rattle.asking.specs.Asked.{fit_of, recorded}
-use Rattle.asking.specs.Histories.{Opened, Standing, with_table, begun, step, after, after_from, asked, linked_recipe, may_trace, accepted, replies_from}
-use Rattle.asking.specs.Law.{Says, Written, Shown}
+use Rattle.asking.specs.Histories.{Opened, Standing, begun, step, after, after_from, asked, linked_recipe, may_trace, accepted, replies_from}
+use Rattle.asking.specs.Law.{Says, Written}
 use Rattle.asking.specs.declared.requests.Request.TheVariants.{Dig, Trace}
 use Rattle.asking.specs.declared.requests.Reply.{Reply}
 use Rattle.asking.specs.declared.requests.Reply.TheVariants.{Judged}
-use Rattle.asking.proofs.Allowing.{by_allowed}
 use Rattle.asking.proofs.Judging.{said}
 use Rattle.asking.proofs.Clauses.{asking_law}
-use Rattle.judging.specs.declared.Finding.{Finding}
 use Rattle.judging.specs.declared.Judgement.{Judgement}
 use Rattle.judging.specs.declared.errors.JudgeError.{JudgeError}
 use Rattle.judging.specs.declared.errors.JudgeError.TheVariants.{Refused, OutOfMemory}
-use Rattle.judging.specs.Judged.{case_in, setting_in, first_asked, all_asked, Found, shown, written_to, found_in, both_in, judgement_of, Answers, Finds, Shows, RightOf, Tells}
+use Rattle.judging.specs.Judged.{case_in, setting_in, first_asked, all_asked, shown, written_to, found_in, both_in, judgement_of, Answers, Finds, Shows, RightOf, Tells}
 
 -- a recipe has at most 16 rows and 4,096 edges, and both rules have 65,536 values
 module _ (r : Recipe) where
@@ -155,15 +154,6 @@ module _ (rule : Program → Rule) (bs : List ℕ) where
       by : (t : List ℕ) × BadTrace X t × (((found_in rule bs).trace ≡ Ok t) ⊎ (((found_in rule bs).trace ≡ Err (LongTrace (capped (length t)))) × (1024 < length t)))
           → (t : List ℕ) × Traces (program_of bs) (edges_of bs) t × LeavesBad (program_of bs) (table_watch (program_of bs).rows) t × (((found_in rule bs).trace ≡ Ok t) ⊎ (((found_in rule bs).trace ≡ Err (LongTrace (capped (length t)))) × (1024 < length t)))
       by s = let h = bad_trace X (Traces X.program X.edges) agrees_here s.0 s.1 in (s.0, subst (λ es. Traces (program_of bs) es s.0) edges_are h.0, h.1, s.2)
-
--- what a call that is refused, and one that answers, was
-pub refused_so : {A : Type 0} (o : Allowed) (a : A) (e : Refusal) → Err e ≡ answered o a → o ≡ Err e
-refused_so (Ok u) a e h = search rules
-refused_so (Err f) a e h = search rules
-
-pub answered_so : {A : Type 0} (o : Allowed) (a x : A) → Ok x ≡ answered o a → (x ≡ a) × (o ≡ Ok tt)
-answered_so (Ok u) a x h = search rules
-answered_so (Err f) a x h = search rules
 
 -- what is found under both rules is right
 pub both_right : (bs : List ℕ) (j : Judgement) → LegalFile bs → shown j.history ≡ found_in history bs → shown j.stack ≡ found_in stack_inspection bs → Tells bs (Ok j)

@@ -7,7 +7,7 @@ use Rattle.model.specs.Facts.{Setting}
 use Rattle.model.specs.Models.{HistoryTrace, StackTrace, LeavesBad}
 use Rattle.model.specs.Program.{Program}
 use Rattle.model.specs.Searches.{BadTrace}
-use Rattle.model.specs.Tables.{Search, capped, opened, dug}
+use Rattle.model.specs.Tables.{capped, opened, dug}
 use Rattle.model.specs.Watches.{table_watch}
 use Rattle.model.specs.declared.Edge.{Edge}
 use Rattle.model.specs.declared.Verdict.TheVariants.{Safe, Unsafe}

@@ -1,5 +1,5 @@
 -- What is printed of a judgement, and of a file: bytes of text.
-use Rattle.std.specs.Prelude.{ℕ, cond, List, [], ◌∷◌, ◌++◌, Ok, Err, Result, codes, ◌==◌}
+use Rattle.std.specs.Prelude.{ℕ, cond, List, [], ◌++◌, Ok, Err, Result, codes, ◌==◌}
 use Rattle.std.specs.Fmt.{decimal}
 use Rattle.std.specs.List.{flat_map}
 use Rattle.model.specs.Words.{verdict_name}

@@ -1,8 +1,7 @@
 -- Runs under history and under stack inspection have the traces of the two models: a frame stands for a state, and a step of a run for a step of the model.
 use Rattle.std.proofs.Common.{◌≡◌, ℕ, ◌<◌, ◌≤◌, Bool, true, false, cond, ◌&&◌, ltb, ◌⊎◌, List, [], ◌∷◌, map, reverse, length, sym, refl, ap, ◌∙◌, subst, ap₂, inl, inr, arith}
 use lib.Bits.{bit_or, and_le_l, and_le_r}
-use Rattle.std.proofs.lemmas.List.{get_or_past}
-use Rattle.std.proofs.lemmas.Bool.{false≢true, and_parts, and_from, ltb-true, lt-ltb, cases_lt, cond-true, cond_both}
+use Rattle.std.proofs.lemmas.Bool.{false≢true, and_parts, and_from, ltb-true, lt-ltb, cond-true, cond_both}
 use Rattle.model.specs.declared.Edge.{Edge}
 use Rattle.model.specs.declared.Frame.{Frame}
 use Rattle.model.specs.declared.Kind.{Kind}
@@ -11,14 +10,14 @@ use Rattle.model.specs.Access.{Rule, is_entry_of, is_check, call_enters, call_re
 use Rattle.model.specs.Agreement.{RunTrace, HistoryAgrees, StackAgrees}
 use Rattle.model.specs.Facts.{Setting, RunGoesBad}
 use Rattle.model.specs.Lawful.{Lawful, EdgesObey}
-use Rattle.model.specs.Program.{Program, no_method, method_at, node_at, rights_of, is_return}
+use Rattle.model.specs.Program.{Program, method_at, node_at, rights_of, is_return}
 use Rattle.model.specs.Models.{Rights, State, rights_in, union, meet, Subset, static, static_of, HistoryStep, StackStep, Chain, begin, more, LeavesBad}
 use Rattle.model.specs.Runs.{Run, Leads, goes_on, is_call, returns_at, reads}
 use Rattle.model.specs.Searches.{BadTrace}
 use Rattle.model.specs.Watches.{Watch}
 use Rattle.model.proofs.Determined.{run_state}
 use Rattle.model.proofs.RightSets.{rights_or, rights_and, holds_subset, subset_holds}
-use Rattle.model.proofs.Standing.{Standing, Bounded, Valued, run_standing, run_values, standing_returns}
+use Rattle.model.proofs.Standing.{rights_small, Standing, Bounded, Valued, run_standing, run_values, standing_returns}
 
 abbrev state_at : Frame → State
 state_at f = record { at = f.node; current = rights_in f.value }
@@ -114,18 +113,11 @@ return_kind (Call g grant accept privileged) h = absurd (false≢true h)
 return_kind (Check required) h = absurd (false≢true h)
 return_kind Return h = refl
 
-rights_low : (p : Program) (es : List Edge) (k : ℕ) → Lawful p es → (method_at p k).rights < 65536
-rights_low p es k law = by (cases_lt k (length p.methods))
-  where
-    by : (k < length p.methods) ⊎ (length p.methods ≤ k) → (method_at p k).rights < 65536
-    by (inl lt) = (law.method k lt).rights
-    by (inr le) = let e : method_at p k ≡ no_method = get_or_past p.methods k no_method le in rw e (omega arith)
-
 module _ (p : Program) (E : ℕ → ℕ → ℕ) (B : ℕ → ℕ → ℕ → ℕ) where
   set_bounded : (es : List Edge) → Lawful p es → ((c n : ℕ) → E c n ≤ callee_rights p n) → ((c n u : ℕ) → B c n u ≤ c) → Bounded (set_rule p E B)
   set_bounded es law el bl = record {
-    firsts = λ n. cond_both (asks_first p n) (method_at p 0).rights 0 (λ v. v < 65536) (λ h. rights_low p es 0 law) (λ h. omega arith);
-    enters = λ v n m. cond_both (asks_enter p rights_count v n m) (E v n) 0 (λ w. w < 65536) (λ h. let a = el v n in let b = rights_low p es (callee_of (node_at p n).kind) law in omega arith) (λ h. omega arith);
+    firsts = λ n. cond_both (asks_first p n) (method_at p 0).rights 0 (λ v. v < 65536) (λ h. rights_small p es law 0) (λ h. omega arith);
+    enters = λ v n m. cond_both (asks_enter p rights_count v n m) (E v n) 0 (λ w. w < 65536) (λ h. let a = el v n in let b = rights_small p es law (callee_of (node_at p n).kind) in omega arith) (λ h. omega arith);
     backs = λ v n u x. cond_both (asks_back p rights_count v n u x) (B v n u) 0 (λ w. w < 65536)
         (λ h. let a = bl v n u in let b = ltb-true v rights_count (and_parts (ltb v rights_count) (ltb u rights_count && call_returns p (node_at p n).kind x) h).0 in omega arith) (λ h. omega arith);
   }

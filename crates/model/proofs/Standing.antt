@@ -1,20 +1,29 @@
 -- What holds of the frames of every run: each frame below another is at a call, of the method that the one above is in; and where the rule answers with values below its count, each frame's value is below it. So a run asks its rule only as it should.
-use Rattle.std.proofs.Common.{◌≡◌, ℕ, ◌<◌, true, ◌&&◌, eqb, ltb, List, [], ◌∷◌, length, sym, refl, subst}
+use Rattle.std.proofs.Common.{◌≡◌, ℕ, ◌<◌, ◌≤◌, true, ◌&&◌, eqb, ltb, ◌⊎◌, List, [], ◌∷◌, length, sym, refl, ap, subst, inl, inr, arith}
+use Rattle.std.proofs.lemmas.List.{get_or_past}
 use Rattle.std.specs.List.{AllByRecursion as All}
-use Rattle.std.proofs.lemmas.Bool.{false≢true, and_parts, and_from, eqb-true, eq-eqb}
+use Rattle.std.proofs.lemmas.Bool.{cases_lt, false≢true, and_parts, and_from, eqb-true, eq-eqb}
 use Rattle.model.specs.declared.Edge.{Edge}
 use Rattle.model.specs.declared.Frame.{Frame}
 use Rattle.model.specs.declared.Kind.{Kind}
 use Rattle.model.specs.declared.Kind.TheVariants.{Nop, Call, Check, Return}
 use Rattle.model.specs.Access.{Rule, is_entry_of, is_return_of, call_enters, call_returns, callee_of}
 use Rattle.model.specs.Lawful.{Lawful, EdgesObey}
-use Rattle.model.specs.Program.{Program, node_at, no_edge, home, is_return, EdgeRules}
+use Rattle.model.specs.Program.{Program, no_method, method_at, node_at, no_edge, home, is_return, EdgeRules}
 use Rattle.model.specs.Runs.{Run, start, pass, enter, back, is_call, returns_at}
 use Rattle.model.specs.Watches.{Watch}
 
 -- the edges of a lawful program obey the rules
 pub edges_obey : (p : Program) (es : List Edge) → Lawful p es → EdgesObey p es
 edges_obey p es law e h = subst (EdgeRules p) (h.2 no_edge) (law.edge h.0 h.1)
+
+-- no method's rights reach 65,536; past the last method there are none
+pub rights_small : (p : Program) (es : List Edge) → Lawful p es → (k : ℕ) → (method_at p k).rights < 65536
+rights_small p es law k = by (cases_lt k (length p.methods))
+  where
+    by : (k < length p.methods) ⊎ (length p.methods ≤ k) → (method_at p k).rights < 65536
+    by (inl lt) = (law.method k lt).rights
+    by (inr le) = omega (arith, ap (λ m. m.rights) (get_or_past p.methods k no_method le))
 
 -- an entry of a method is a node of it
 pub entry_home : (p : Program) (k n : ℕ) → is_entry_of p k n ≡ true → home p.methods n ≡ k

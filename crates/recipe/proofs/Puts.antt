@@ -1,5 +1,5 @@
 -- Writing the records of edges, one after another.
-use Rattle.std.proofs.Common.{◌≡◌, ℕ, ◌+◌, ◌*◌, ◌≤◌, List, [], ◌∷◌, ◌++◌, length, take, drop, sym, refl, ap, ◌∙◌, append_assoc, arith}
+use Rattle.std.proofs.Common.{◌≡◌, ℕ, ◌+◌, ◌*◌, ◌≤◌, List, [], ◌∷◌, ◌++◌, length, take, drop, sym, ap, ◌∙◌, append_assoc, arith}
 use Rattle.std.specs.List.{flat_map}
 use Rattle.std.proofs.lemmas.List.{drop-drop, take-append-drop, append-nil}
 use Rattle.model.specs.declared.Edge.{Edge}
@@ -13,9 +13,6 @@ pub record Sofar (all : List Edge) (at : ℕ) (xs : List ℕ) (place : ℕ) (out
   pub room : place + 4 * length left ≡ at + 4 * length all
 
 module _ (all : List Edge) (at : ℕ) (xs : List ℕ) where
-  pub sofar_start : (place : ℕ) → place ≡ at → (left : List Edge) → left ≡ all → Sofar all at xs place xs left
-  sofar_start place p left h = rw (p, h) (record { front = refl; past = refl; room = refl })
-
   -- the next edge is written
   pub sofar_more : (place : ℕ) (out : List ℕ) (left : List Edge) (e : Edge) (others : List Edge) (bs out' : List ℕ) → Sofar all at xs place out left → left ≡ e ∷ others
       → bs ≡ edge_bytes e → place + 4 ≤ length out → out' ≡ take place out ++ (bs ++ drop (place + length bs) out) → Sofar all at xs (place + 4) out' others

@@ -4,7 +4,7 @@ use lib.Bits.{bit_and}
 use Rattle.std.specs.List.{flat_map, AllByRecursion as All}
 use Rattle.std.specs.Option.{option_or}
 use Rattle.std.proofs.lemmas.List.FromFn.{fill_by_all}
-use Rattle.std.proofs.lemmas.List.{append-nil, get_or_past}
+use Rattle.std.proofs.lemmas.List.{append-nil}
 use Rattle.std.proofs.lemmas.Bool.{lt-ltb, le-leb, eq-eqb, and_from, or_left, or_right, cond-true, cases_lt}
 use Rattle.model.specs.declared.Edge.{Edge}
 use Rattle.model.specs.declared.Kind.{Kind}
@@ -404,11 +404,3 @@ legal_passes file legal = (
   ap (λ xs. first_offence (take_tests xs)) legal.3 ∙ take_passes legal.0 legal.1 legal.2,
   ap (λ xs. first_offence (check_tests xs)) legal.3 ∙ check_passes legal.0 legal.1 legal.2,
 )
-
--- no method's rights reach 65,536; past the last method there are none
-pub rights_small : (p : Program) (es : List Edge) → Lawful p es → (k : ℕ) → (method_at p k).rights < 65536
-rights_small p es law k = at (cases_lt k (length p.methods))
-  where
-    at : (k < length p.methods) ⊎ (length p.methods ≤ k) → (method_at p k).rights < 65536
-    at (inl l) = (law.method k l).rights
-    at (inr l) = omega (arith, ap (λ m. m.rights) (get_or_past p.methods k no_method l))

@@ -14,7 +14,7 @@ use Rattle.recipe.specs.Format.{bytes_of}
 use Rattle.recipe.specs.Recipes.{file_of, program, own_edges, cell_of}
 use Rattle.recipe.specs.Spans.{Summed}
 use Rattle.recipe.proofs.Places.{laid}
-use Rattle.recipe.proofs.ReadBack.{rights_small}
+use Rattle.model.proofs.Standing.{rights_small}
 use Rattle.recipe.proofs.Scans.{methods_length, nodes_length, edges_length, rows_length, method_at_lem, edge_at, row_at, summed}
 use Rattle.recipe.proofs.WriteBack.{Checked, checked, node_some, lawful, written}
 

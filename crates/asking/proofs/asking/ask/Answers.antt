@@ -4,7 +4,8 @@ use Rattle.std.proofs.lemmas.List.{length-take}
 use Rattle.inquiry.specs.Calls.{unless}
 use Rattle.asking.specs.Asked.{opened_on, recorded}
 use Rattle.asking.specs.Histories.{after}
-use Rattle.asking.proofs.Carrying.{Going, front_none, next_rest, going_start, going_on, end_answer, end_log, end_facts, end_edges, end_output, end_same}
+use Rattle.model.proofs.Nexts.{next_rest}
+use Rattle.asking.proofs.Carrying.{Going, front_none, going_start, going_on, end_answer, end_log, end_facts, end_edges, end_output, end_same}
 use Rattle.asking.proofs.Clauses.{asking_law}
 use Rattle.asking.proofs.Telling.{record_tells}
 use Rattle.asking.proofs.asking.ask.Goals as goal

@@ -1,7 +1,8 @@
 use Rattle.std.proofs.Common.{◌≡◌, ◌+◌, [], ◌∷◌, ◌++◌, take, drop, set, sym, ap, ◌∙◌, rules, arith}
 use Rattle.recipe.specs.Recipes.{own_edges}
 use Rattle.recipe.specs.Sequences.{left_in_file}
-use Rattle.inquiry.proofs.Begun.{next_lt, next_rest, copied_more, copied_all}
+use Rattle.model.proofs.Nexts.{next_lt, next_rest}
+use Rattle.inquiry.proofs.Begun.{copied_more, copied_all}
 use Rattle.inquiry.proofs.opens.copy_edges.Goals as goal
 
 pub loop-place-preserved : goal.loop-place-preserved

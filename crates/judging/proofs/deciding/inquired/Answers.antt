@@ -7,7 +7,8 @@ use Rattle.inquiry.specs.Calls.{unless, report_of}
 use Rattle.asking.specs.Histories.{Opened, after, asked}
 use Rattle.asking.specs.declared.requests.Request.TheVariants.{Trace}
 use Rattle.judging.specs.Judged.{Finds, case_in, first_asked, all_asked, written_to, nodes_in}
-use Rattle.judging.proofs.Fitting.{refused_so, answered_so, reply_is}
+use Rattle.inquiry.proofs.Allowed.{refused_so, answered_so}
+use Rattle.judging.proofs.Fitting.{reply_is}
 use Rattle.judging.proofs.deciding.inquired.Goals as goal
 
 pub returns-in_err-report : goal.returns-in_err-report
