@@ -1,6 +1,9 @@
 // The recipe that most tests are about: a method that calls two others, and two rows of what may follow a mark.
 // Its bytes are handed out by functions, so that a proof of a test does not have to carry each of them.
 ghost use Rattle.std.specs.Prelude.{◌≡◌, length};
+ghost use Rattle.model.specs.RecipeA.{program_a, edges_a};
+ghost use Rattle.samples.specs.Building.{program_in};
+ghost use Rattle.samples.specs.RecipeA.{file_a, owners_a};
 
 use crate::building::{CALL, Parts};
 use model::{Edge, Kind, Method, Node};
@@ -83,7 +86,10 @@ static ROWS: [[u8; 32]; 2] = [
 ];
 
 // What the file is made of.
-pub fn parts() -> Parts<'static> {
+pub fn parts() -> Parts<'static>
+    ensures program { program_in result ≡ program_a }
+    ensures edges { result.edges.now ≡ edges_a }
+{
     Parts {
         methods: &METHODS,
         nodes: &NODES,
@@ -115,7 +121,8 @@ static FILE: &[u8; 164] = b"\x00\x10\x00\x03\x00\x1c\x00\x07\x00\x54\x00\x04\x00
 
 // The bytes of the file.
 pub fn file() -> &'static [u8]
-    ensures { length result.now ≡ 164 }
+    ensures bytes { result.now ≡ file_a }
+    ensures length { length result.now ≡ 164 }
 {
     FILE
 }
@@ -123,7 +130,9 @@ pub fn file() -> &'static [u8]
 static OWNERS: [u32; 7] = [0, 0, 0, 1, 2, 2, 2];
 
 // The method of each node.
-pub fn owners() -> &'static [u32] {
+pub fn owners() -> &'static [u32]
+    ensures { result.now ≡ owners_a }
+{
     &OWNERS
 }
 

@@ -1,4 +1,7 @@
 // Phrases that stand in several lines.
+ghost use Rattle.std.specs.Prelude.{Some};
+ghost use Rattle.showing.specs.Phrases.{rights_text, held_text, refused_text};
+
 use recipe::Refusal;
 use std::fmt;
 
@@ -7,6 +10,8 @@ use std::fmt;
 pub struct Rights(pub u32);
 
 impl fmt::Display for Rights {
+    ghost output = { λ r. Some (rights_text r.0) };
+
     fn fmt<W: fmt::Write>(&self, f: &mut fmt::Formatter<W>) -> fmt::Result {
         if self.0 == 0 {
             return f.write_str("none");
@@ -28,6 +33,8 @@ impl fmt::Display for Rights {
 pub struct Held(pub u32);
 
 impl fmt::Display for Held {
+    ghost output = { λ h. Some (held_text h.0) };
+
     fn fmt<W: fmt::Write>(&self, f: &mut fmt::Formatter<W>) -> fmt::Result {
         match self.0 {
             0 => f.write_str("no rights"),
@@ -41,6 +48,8 @@ impl fmt::Display for Held {
 pub struct Refused(pub Refusal);
 
 impl fmt::Display for Refused {
+    ghost output = { λ r. Some (refused_text r.0) };
+
     fn fmt<W: fmt::Write>(&self, f: &mut fmt::Formatter<W>) -> fmt::Result {
         write!(f, "refused {} {}", self.0.number(), self.0.detail())
     }
