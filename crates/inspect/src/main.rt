@@ -13,19 +13,30 @@ mod transitions;
 mod written;
 
 use listing::list_methods;
+use phrases::Many;
 use ruled::{first_entries, list_answers, list_watch};
 use transitions::list_rows;
 use written::write_back;
 
 // How long the file is, and how many of each kind the recipe has, as a line.
 fn print_counts(rt: &HostRuntime, recipe: &Recipe, bytes: usize) -> anyhow::Result<()> {
-    let methods = recipe.methods();
-    let nodes = recipe.nodes();
-    let edges = recipe.edges();
-    let rows = recipe.rows();
-    println!(rt;
-        "recipe of {bytes} bytes: {methods} methods, {nodes} nodes, {edges} edges, {rows} rows"
-    )?;
+    let methods = Many {
+        number: recipe.methods(),
+        what: "method",
+    };
+    let nodes = Many {
+        number: recipe.nodes(),
+        what: "node",
+    };
+    let edges = Many {
+        number: recipe.edges(),
+        what: "edge",
+    };
+    let rows = Many {
+        number: recipe.rows(),
+        what: "row",
+    };
+    println!(rt; "recipe of {bytes} bytes: {methods}, {nodes}, {edges}, {rows}")?;
     Ok(())
 }
 

@@ -1,5 +1,20 @@
-// A phrase that stands in several lines.
+// Phrases that stand in several lines, or several times in one.
 use std::fmt;
+
+// So many of a kind: "1 row" or "3 rows".
+#[derive(Clone, Copy)]
+pub(crate) struct Many {
+    pub number: u32,
+    pub what: &'static str,
+}
+
+impl fmt::Display for Many {
+    fn fmt<W: fmt::Write>(&self, f: &mut fmt::Formatter<W>) -> fmt::Result {
+        let Many { number, what } = *self;
+        let plural = if number == 1 { "" } else { "s" };
+        write!(f, "{number} {what}{plural}")
+    }
+}
 
 // Things of one kind with consecutive numbers, the last one included: "node 3" or "nodes 0 to 2".
 #[derive(Clone, Copy)]

@@ -1,4 +1,5 @@
 // What both access rules make of each call and each check, and what the table watch does on the marks that the recipe uses.
+use crate::phrases::Many;
 use recipe::{Kind, Recipe};
 use rules::{AccessRule, History, StackInspection, TableWatch, Watch};
 use showing::Rights;
@@ -74,8 +75,12 @@ fn uses(recipe: &Recipe, mark: u32) -> bool {
 pub(crate) fn list_watch(rt: &HostRuntime, recipe: &Recipe) -> anyhow::Result<()> {
     let watch = TableWatch { recipe };
     let states = watch.states();
+    let many = Many {
+        number: states,
+        what: "state",
+    };
     let start = watch.start();
-    println!(rt; "watch of {states} states, from state {start}")?;
+    println!(rt; "watch of {many}, from state {start}")?;
     for mark in (0..32).filter(|mark| uses(recipe, *mark)) {
         print!(rt; "  mark {mark}:")?;
         for state in 0..states {

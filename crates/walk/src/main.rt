@@ -1,6 +1,7 @@
 // Follows a list of nodes through a recipe under one of the rules, and prints each step.
 #![tactic(auto)]
 
+use anyhow::Context;
 use model::Frame;
 use recipe::{Edge, Recipe, Refusal, recipe_of};
 use rules::{AccessRule, History, StackInspection, Subject, TableWatch};
@@ -106,7 +107,11 @@ fn main(rt: HostRuntime) -> anyhow::Result<()> {
     // A chain with try_collect would have to name the error of its closure.
     let mut nodes = Vec::new(rt.alloc());
     for word in words {
-        nodes.push(word.as_str().parse::<u32>()?)?;
+        let node = word
+            .as_str()
+            .parse::<u32>()
+            .context(format_args!("{word:?} is no number of a node"))?;
+        nodes.push(node)?;
     }
     let mut file = Vec::new(rt.alloc());
     rt.stdin().read_to_end(&mut file)?;
