@@ -39,7 +39,7 @@ use Rattle.asking.proofs.Clauses.{asking_law}
 use Rattle.judging.specs.declared.Judgement.{Judgement}
 use Rattle.judging.specs.declared.errors.JudgeError.{JudgeError}
 use Rattle.judging.specs.declared.errors.JudgeError.TheVariants.{Refused, OutOfMemory}
-use Rattle.judging.specs.Judged.{case_in, setting_in, first_asked, all_asked, shown, written_to, found_in, both_in, judgement_of, Answers, Finds, Shows, RightOf, Tells}
+use Rattle.judging.specs.Judged.{case_in, setting_in, first_asked, all_asked, shown, written_to, found_in, both_in, judgement_of, Answers, Finds, Shows, ByModel, RightOf, Tells}
 
 -- a recipe has at most 16 rows and 4,096 edges, and both rules have 65,536 values
 module _ (r : Recipe) where
@@ -137,7 +137,7 @@ module _ (rule : Program → Rule) (bs : List ℕ) where
   -- what is found is right, of runs and of the traces of the model that the rule agrees with
   pub right_so : (Traces : Program → List Edge → List ℕ → Type 0) → LegalFile bs → ((p : Program) (own es : List Edge) (W : Watch) (t : List ℕ) → Lawful p own → EdgesObey p es → (Traces p es t → RunTrace p es (rule p) W t) × (RunTrace p es (rule p) W t → Traces p es t))
       → RightOf rule Traces bs (found_in rule bs)
-  right_so Traces legal agrees = record { comes = comes_here; shows = shows_so; by_model = record { safe = λ e t h bad. comes_here.means.safe e (bad_run X (Traces X.program X.edges) agrees_here t (along t h) bad); unsafe = λ e. by (shows_so.unsafe e) } }
+  right_so Traces legal agrees = record { comes = comes_here; shows = shows_so; by_model = modelled }
     where
       law : Lawful (program_of bs) (edges_of bs)
       law = legal_lawful bs legal
@@ -154,6 +154,16 @@ module _ (rule : Program → Rule) (bs : List ℕ) where
       by : (t : List ℕ) × BadTrace X t × (((found_in rule bs).trace ≡ Ok t) ⊎ (((found_in rule bs).trace ≡ Err (LongTrace (capped (length t)))) × (1024 < length t)))
           → (t : List ℕ) × Traces (program_of bs) (edges_of bs) t × LeavesBad (program_of bs) (table_watch (program_of bs).rows) t × (((found_in rule bs).trace ≡ Ok t) ⊎ (((found_in rule bs).trace ≡ Err (LongTrace (capped (length t)))) × (1024 < length t)))
       by s = let h = bad_trace X (Traces X.program X.edges) agrees_here s.0 s.1 in (s.0, subst (λ es. Traces (program_of bs) es s.0) edges_are h.0, h.1, s.2)
+
+      here : ByModel (Traces (program_of bs) (edges_of bs)) (program_of bs) (found_in rule bs)
+      here = record { safe = λ e t h bad. comes_here.means.safe e (bad_run X (Traces X.program X.edges) agrees_here t (along t h) bad); unsafe = λ e. by (shows_so.unsafe e) }
+
+      -- the program and edges that the file was written for are those that its bytes say
+      modelled : (p : Program) (es : List Edge) → Lawful p es → bs ≡ bytes_of p es → ByModel (Traces p es) p (found_in rule bs)
+      modelled p es lawful is =
+          let program_is = ap program_of is ∙ read_program p es lawful in
+          let edges_is = ap edges_of is ∙ read_edges p es lawful in
+          subst (λ q. ByModel (Traces q es) q (found_in rule bs)) program_is (subst (λ fs. ByModel (Traces (program_of bs) fs) (program_of bs) (found_in rule bs)) edges_is here)
 
 -- what is found under both rules is right
 pub both_right : (bs : List ℕ) (j : Judgement) → LegalFile bs → shown j.history ≡ found_in history bs → shown j.stack ≡ found_in stack_inspection bs → Tells bs (Ok j)

@@ -4,6 +4,7 @@ use Rattle.std.specs.declared.vec.Vec.{Vec}
 use Rattle.std.specs.declared.alloc.Global.{Global}
 use Rattle.model.specs.Access.{Rule, history, stack_inspection}
 use Rattle.model.specs.Facts.{Setting}
+use Rattle.model.specs.Lawful.{Lawful}
 use Rattle.model.specs.Models.{HistoryTrace, StackTrace, LeavesBad}
 use Rattle.model.specs.Program.{Program}
 use Rattle.model.specs.Searches.{BadTrace}
@@ -12,7 +13,7 @@ use Rattle.model.specs.Watches.{table_watch}
 use Rattle.model.specs.declared.Edge.{Edge}
 use Rattle.model.specs.declared.Verdict.TheVariants.{Safe, Unsafe}
 use Rattle.recipe.specs.Bytes.{program_of, edges_of}
-use Rattle.recipe.specs.Format.{Legal as LegalFile}
+use Rattle.recipe.specs.Format.{bytes_of, Legal as LegalFile}
 use Rattle.recipe.specs.Offence.{first_offence, take_tests, check_tests}
 use Rattle.recipe.specs.declared.grounds.Refusal.{Refusal}
 use Rattle.recipe.specs.declared.grounds.Refusal.TheVariants.{NotUnsafe, LongTrace}
@@ -104,17 +105,16 @@ pub record Shows (X : Setting) (f : Found) : Type 0 where
   pub unsafe : f.report.verdict ≡ Unsafe → (t : List ℕ) × BadTrace X t × ((f.trace ≡ Ok t) ⊎ ((f.trace ≡ Err (LongTrace (capped (length t)))) × (1024 < length t)))
   pub none : f.report.verdict ≢ Unsafe → f.trace ≡ Err NotUnsafe
 
--- the same with no word of runs, said of the traces that a transition system has: safe, none of them leaves the watch of the recipe's rows bad; unsafe, one does, and it is there, or has more than 1,024 nodes
-pub record ByModel (Traces : Program → List Edge → List ℕ → Type 0) (bs : List ℕ) (f : Found) : Type 0 where
-  pub safe : f.report.verdict ≡ Safe → (t : List ℕ) → Traces (program_of bs) (edges_of bs) t → LeavesBad (program_of bs) (table_watch (program_of bs).rows) t → ⊥
-  pub unsafe : f.report.verdict ≡ Unsafe
-      → (t : List ℕ) × Traces (program_of bs) (edges_of bs) t × LeavesBad (program_of bs) (table_watch (program_of bs).rows) t × ((f.trace ≡ Ok t) ⊎ ((f.trace ≡ Err (LongTrace (capped (length t)))) × (1024 < length t)))
+-- the same with no word of runs, said of the traces that a transition system has of a program and its edges: safe, none of them leaves the watch of the program's rows bad; unsafe, one does, and it is there, or has more than 1,024 nodes
+pub record ByModel (traces : List ℕ → Type 0) (p : Program) (f : Found) : Type 0 where
+  pub safe : f.report.verdict ≡ Safe → (t : List ℕ) → traces t → LeavesBad p (table_watch p.rows) t → ⊥
+  pub unsafe : f.report.verdict ≡ Unsafe → (t : List ℕ) × traces t × LeavesBad p (table_watch p.rows) t × ((f.trace ≡ Ok t) ⊎ ((f.trace ≡ Err (LongTrace (capped (length t)))) × (1024 < length t)))
 
--- what is found is right, of every run of the recipe under that rule, and of every trace of the transition system that models it
+-- what is found is right, of every run of the recipe under that rule; and of every trace that the transition system which models the rule has of the program and edges that the file was written for
 pub record RightOf (rule : Program → Rule) (Traces : Program → List Edge → List ℕ → Type 0) (bs : List ℕ) (f : Found) : Type 0 where
   pub comes : Comes (setting_in rule bs) 1024 1024 (dug (setting_in rule bs) 1024 1024 (opened (setting_in rule bs) 1024)) f.report
   pub shows : Shows (setting_in rule bs) f
-  pub by_model : ByModel Traces bs f
+  pub by_model : (p : Program) (es : List Edge) → Lawful p es → bs ≡ bytes_of p es → ByModel (Traces p es) p f
 
 -- what an answer tells: the file is legal, and what is found is right under each rule; or the file is not legal
 abbrev pub Tells : List ℕ → Result Judgement JudgeError → Type 0
