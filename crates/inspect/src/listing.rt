@@ -1,5 +1,6 @@
 // Lists the methods, each with its nodes under it.
-ghost use Rattle.std.specs.Prelude.{◌≡◌, ℕ, ◌<◌, ◌≤◌, length, ◌≢◌, slice_index_or};
+ghost use Rattle.std.specs.Prelude.{◌≡◌, ℕ, ◌<◌, ◌≤◌, length, ◌≢◌, slice_index_or, Some};
+ghost use Rattle.inspect.specs.Phrases.{heading_text, run_text};
 ghost use Rattle.model.specs.Program.{no_edge};
 
 use crate::phrases::Run;
@@ -17,6 +18,8 @@ struct Heading {
 }
 
 impl fmt::Display for Heading {
+    ghost output = { λ h. Some (heading_text h.number h.method (run_text h.nodes.what.now h.nodes.first h.nodes.last)) };
+
     fn fmt<W: fmt::Write>(&self, f: &mut fmt::Formatter<W>) -> fmt::Result {
         let Heading {
             number,

@@ -1,4 +1,7 @@
 // Phrases that stand in several lines, or several times in one.
+ghost use Rattle.std.specs.Prelude.{Some};
+ghost use Rattle.inspect.specs.Phrases.{many_text, run_text};
+
 use std::fmt;
 
 // So many of a kind: "1 row" or "3 rows".
@@ -9,6 +12,8 @@ pub(crate) struct Many {
 }
 
 impl fmt::Display for Many {
+    ghost output = { λ m. Some (many_text m.number m.what.now) };
+
     fn fmt<W: fmt::Write>(&self, f: &mut fmt::Formatter<W>) -> fmt::Result {
         let Many { number, what } = *self;
         let plural = if number == 1 { "" } else { "s" };
@@ -25,6 +30,8 @@ pub(crate) struct Run {
 }
 
 impl fmt::Display for Run {
+    ghost output = { λ r. Some (run_text r.what.now r.first r.last) };
+
     fn fmt<W: fmt::Write>(&self, f: &mut fmt::Formatter<W>) -> fmt::Result {
         let Run { what, first, last } = *self;
         if first == last {

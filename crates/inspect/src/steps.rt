@@ -1,4 +1,7 @@
 // A node of a method, as one line.
+ghost use Rattle.std.specs.Prelude.{Some};
+ghost use Rattle.inspect.specs.Phrases.{action_text, targets_text, step_text};
+
 use recipe::{Edge, Kind, Node};
 use showing::Rights;
 use std::fmt;
@@ -8,6 +11,8 @@ use std::fmt;
 struct Action(Kind);
 
 impl fmt::Display for Action {
+    ghost output = { λ a. Some (action_text a.0) };
+
     fn fmt<W: fmt::Write>(&self, f: &mut fmt::Formatter<W>) -> fmt::Result {
         match self.0 {
             Kind::Nop => f.write_str("nop"),
@@ -36,11 +41,14 @@ impl fmt::Display for Action {
 struct Targets<'a>(&'a [Edge]);
 
 impl fmt::Display for Targets<'_> {
+    ghost output = { λ t. Some (targets_text t.0.now) };
+
     fn fmt<W: fmt::Write>(&self, f: &mut fmt::Formatter<W>) -> fmt::Result {
-        let mut before = "; then ";
-        for edge in self.0 {
-            write!(f, "{before}{}", edge.to)?;
-            before = ", ";
+        if let [first, others @ ..] = self.0 {
+            write!(f, "; then {}", first.to)?;
+            for edge in others {
+                write!(f, ", {}", edge.to)?;
+            }
         }
         Ok(())
     }
@@ -55,6 +63,8 @@ pub(crate) struct Step<'a> {
 }
 
 impl fmt::Display for Step<'_> {
+    ghost output = { λ s. Some (step_text s.number s.node s.edges.now) };
+
     fn fmt<W: fmt::Write>(&self, f: &mut fmt::Formatter<W>) -> fmt::Result {
         let Step {
             number,

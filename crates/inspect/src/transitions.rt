@@ -1,4 +1,7 @@
 // Lists the rows: where each mark leads from each.
+ghost use Rattle.std.specs.Prelude.{Some};
+ghost use Rattle.inspect.specs.Phrases.{run_text, lead_text};
+
 use crate::phrases::Run;
 use recipe::Recipe;
 use std::{fmt, io};
@@ -17,6 +20,8 @@ struct Lead {
 }
 
 impl fmt::Display for Lead {
+    ghost output = { λ l. Some (lead_text (run_text l.marks.what.now l.marks.first l.marks.last) l.cell) };
+
     fn fmt<W: fmt::Write>(&self, f: &mut fmt::Formatter<W>) -> fmt::Result {
         let Lead { marks, cell } = self;
         match *cell {
