@@ -52,7 +52,7 @@ def layers():
               (120, 440, 238, 505), (560, 440, 442, 505), (340, 560, 340, 598), (340, 680, 340, 718),
               (560, 82, 560, 358), (340, 82, 340, 478)]:
         parts.append(arrow(*a))
-    parts.append(text(340, 826, "An arrow leads from a crate to one that it rests on; what follows from others is left out.", 12))
+    parts.append(text(340, 826, "An arrow: rests on (what follows from others is left out). Not drawn: showing, and what is for tests.", 12))
     return svg(680, 840, parts, "The crates, and which rests on which")
 
 
