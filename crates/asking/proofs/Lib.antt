@@ -8,6 +8,7 @@ pub mod Judging
 pub mod Keeping
 pub mod Lasting
 pub mod Making
+pub mod Modelling
 pub mod Moving
 pub mod Showing
 pub mod Telling

@@ -1,10 +1,12 @@
 -- What the record of a call says: each clause is the law, of the requests before the reply.
-use Rattle.std.proofs.Common.{◌≡◌, ℕ, ◌+◌, ◌-◌, ◌<◌, ◌≤◌, ◌⊎◌, List, [], ◌∷◌, ◌++◌, length, get_or, take, drop, Ok, Err, Result, sym, refl, ap, ◌∙◌, subst, inl, inr, ⊎_elim, arith, append_assoc, append-nil, take-add}
+use Rattle.std.proofs.Common.{◌≡◌, ℕ, ◌+◌, ◌-◌, ◌<◌, ◌≤◌, ◌⊎◌, List, [], ◌∷◌, ◌++◌, length, get_or, take, drop, None, Ok, Err, Result, sym, refl, ap, ◌∙◌, subst, inl, inr, ⊎_elim, arith, append_assoc, append-nil, take-add}
 use Rattle.std.proofs.lemmas.List.{take-append-drop, drop_more, take_more, take_at, get_or_at, length-take-le}
 use Rattle.model.specs.declared.Verdict.{Verdict as Outcome}
 use Rattle.model.specs.declared.Verdict.TheVariants.{Safe, Unsafe, Full, Unfinished}
-use Rattle.model.specs.Facts.{RunGoesBad}
-use Rattle.model.specs.Program.{counted}
+use Rattle.model.specs.declared.Edge.{Edge}
+use Rattle.model.specs.Facts.{Setting, RunGoesBad}
+use Rattle.model.specs.Lawful.{EdgesObey}
+use Rattle.model.specs.Program.{Program, no_edge, EdgeRules, counted}
 use Rattle.model.specs.Searches.{Different, BadTrace}
 use Rattle.model.specs.Tables.{capped}
 use Rattle.recipe.specs.declared.grounds.Refusal.{Refusal}
@@ -17,11 +19,16 @@ use Rattle.asking.specs.declared.requests.Reply.TheVariants.{Linked, Judged, Tra
 use Rattle.asking.specs.Histories.{Opened, Standing, begun, may_link, may_trace, answer, step, after_from, after, asked, replies_from, replies, accepted, links, linked_recipe}
 use Rattle.asking.specs.Law.{Law, Says, Walks, Shown}
 use Rattle.asking.specs.Recorded.{no_reply, request_at, reply_at, linked_at as linked_then, RecordTells}
+use Rattle.model.proofs.Edges.{counted_rules}
 use Rattle.inquiry.proofs.Allowed.{by_allowed}
 use Rattle.asking.proofs.Allowing.{linked_at}
 use Rattle.asking.proofs.Carrying.{replies_length}
 use Rattle.asking.proofs.Clauses.{asking_law}
 use Rattle.asking.proofs.Going.{after_more, after_one, replies_more}
+
+-- edges that count obey the rules
+counted_obeys : (p : Program) (es : List Edge) → EdgesObey p (counted p es)
+counted_obeys p es e h = subst (EdgeRules p) (h.2 no_edge) (counted_rules p None es h.0 h.1)
 
 -- a list that begins with another has it as its front
 begins : (t rest out : List ℕ) → out ≡ t ++ rest → take (length t) out ≡ t
@@ -124,6 +131,10 @@ module _ (C : Opened) (rs : List Request) (log rest : List (Result Reply Refusal
     -- a reply with a verdict says that it is the verdict there
     replied : (v : Outcome) → reply_at log i ≡ Ok (Judged v) → Says C (before i) v
     replied v e = judged_answer C (after C (before i)) (request_at rs i) v (sym answers ∙ e)
+
+  -- each edge of the recipe as it was linked then obeys the rules, for those of the edge table that count do
+  pub linked_obeys : (i : ℕ) → i < length rs → EdgesObey C.program (linked_then C rs log i).edges
+  linked_obeys i lt = subst (λ (X : Setting). EdgesObey C.program X.edges) (sym (linked_is i lt)) (λ e h. counted_obeys C.program (after C (before i)).edges e (((asking_law C).table (before i)).1 e h))
 
   -- the law, of which the clauses are taken
   abbrev law : Law C

@@ -2,7 +2,9 @@
 #![tactic(auto)]
 
 mod asking;
+mod modelled;
 mod requests;
 
 pub use asking::ask;
+pub use modelled::ask_modelled;
 pub use requests::{Reply, Request};
