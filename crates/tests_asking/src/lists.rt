@@ -1,12 +1,13 @@
 // Lists of requests of recipe A, and as many replies as there are places for.
-use asking::{Reply, Request, ask};
+use asking::{Reply, Request, ask_modelled};
 use inquiry::{Dug, Fact, Report, Verdict};
 use recipe::Refusal::{self, NotUnsafe};
 use recipe::{Edge, recipe_of};
-use rules::{AccessRule, History, StackInspection, Subject, TableWatch};
+use rules::{History, StackInspection, Subject, TableWatch};
 use samples::recipe_a;
 use std::process::Abort;
 use std::test::Fail;
+use walker::Modelled;
 
 // A reply that no request gets: its place in a list of replies was not written.
 pub const MARK: Result<Reply, Refusal> = Ok(Reply::Linked { edges: 999 });
@@ -44,7 +45,7 @@ pub struct Lent {
 pub const MARK_NODE: u32 = 777;
 
 // Makes the requests of recipe A under a rule, in nine places for facts, six for edges and six for nodes, with so many places for replies; checks each reply, and that no other place of the replies was written.
-pub(crate) fn check_asked<R: AccessRule>(
+pub(crate) fn check_asked<R: Modelled>(
     rt: &(impl Abort + AllocGlobal),
     file: &[u8],
     rule: &R,
@@ -65,7 +66,7 @@ pub(crate) fn check_asked<R: AccessRule>(
     };
     let requests: Vec<Request> = asked.iter().map(|a| a.0).collect(rt.alloc())?;
     let mut replies = vec![in rt.alloc(); MARK; room]?;
-    let report = ask(
+    let report = ask_modelled(
         &on,
         &mut lent.facts,
         &mut lent.edges,
