@@ -8,6 +8,8 @@ use Rattle.model.specs.declared.Kind.TheVariants.{Nop, Call, Check, Return}
 use Rattle.model.specs.declared.Method.{Method}
 use Rattle.model.specs.declared.Node.{Node}
 use Rattle.showing.specs.Phrases.{rights_text, held_text}
+use Rattle.inspect.specs.declared.written.Written.{Written}
+use Rattle.inspect.specs.declared.written.Written.TheVariants.{Same, Other}
 
 -- so many of a kind: "1 row" or "3 rows"
 abbrev pub many_text : ℕ → List ℕ → List ℕ
@@ -47,3 +49,12 @@ heading_text number method nodes = codes "method " ++ (decimal number ++ (word_i
 -- where a run of marks leads: 255 is undefined
 abbrev pub lead_text : List ℕ → ℕ → List ℕ
 lead_text marks cell = if cell == 255 then marks ++ codes " undefined" else marks ++ (codes " to row " ++ decimal cell)
+
+-- what a rule does at a check
+abbrev pub verb_text : Bool → List ℕ
+verb_text passed = if passed then codes "passes" else codes "stops"
+
+-- what was written again
+abbrev pub written_text : Written → List ℕ
+written_text (Same bytes) = decimal bytes ++ codes " bytes, the same file"
+written_text (Other bytes) = decimal bytes ++ codes " bytes, another file"

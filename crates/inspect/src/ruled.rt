@@ -1,4 +1,11 @@
 // What both access rules make of each call and each check, and what the table watch does on the marks that the recipe uses.
+ghost use Rattle.std.specs.Prelude.{◌≡◌, ◌==◌, ℕ, ◌<◌, true, length, IfOk, slice_index};
+ghost use Rattle.model.specs.Access.{is_entry_of};
+ghost use Rattle.model.specs.Program.{node_at};
+ghost use Rattle.recipe.specs.Offence.{any_below};
+ghost use Rattle.recipe.specs.Recipes.{program};
+ghost use Rattle.inspect.specs.Phrases.{verb_text};
+
 use crate::phrases::Many;
 use recipe::{Kind, Recipe};
 use rules::{AccessRule, History, StackInspection, TableWatch, Watch};
@@ -8,12 +15,13 @@ use std::alloc::{AllocError, Global};
 const EVERY_RIGHT: u32 = 65535;
 
 // The first entry of each method, in the order of the methods: nodes come in that order, and each method has an entry.
-pub(crate) fn first_entries(heap: Global, recipe: &Recipe) -> Result<Vec<u32>, AllocError> {
+pub(crate) fn first_entries(heap: Global, recipe: &Recipe) -> Result<Vec<u32>, AllocError>
+    ensures { IfOk result (λ entries. (k : ℕ) → k < length entries.items → is_entry_of (program recipe.now) k (slice_index entries.items k) ≡ true) }
+{
     let mut entries = Vec::new(heap);
     // No chain: whether a node is taken hangs on how many were.
     for n in 0..recipe.nodes() {
-        let home = recipe.method_of(n);
-        if recipe.node_at(n).entry && home.is_some_and(|home| home as usize == entries.len()) {
+        if recipe.is_entry_of(entries.len() as u32, n) {
             entries.push(n)?;
         }
     }
@@ -31,7 +39,9 @@ fn print_call(rt: &HostRuntime, recipe: &Recipe, call: u32, entry: u32) -> anyho
 }
 
 // What a rule does at a check.
-fn verb(passed: bool) -> &'static str {
+fn verb(passed: bool) -> &'static str
+    ensures { result.now ≡ verb_text passed }
+{
     if passed { "passes" } else { "stops" }
 }
 
@@ -67,7 +77,9 @@ pub(crate) fn list_answers(
 }
 
 // Whether a node has this mark.
-fn uses(recipe: &Recipe, mark: u32) -> bool {
+fn uses(recipe: &Recipe, mark: u32) -> bool
+    ensures { result ≡ any_below (length (program recipe.now).nodes) (λ n. (node_at (program recipe.now) n).mark == mark) }
+{
     (0..recipe.nodes()).any(|n| recipe.node_at(n).mark == mark)
 }
 

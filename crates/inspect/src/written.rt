@@ -1,8 +1,9 @@
 // Writes a recipe's file again, reads what was written, and compares it with the file.
-ghost use Rattle.std.specs.Prelude.{◌≡◌, ◌<◌, length, Ok, IfOk, MatchResult};
+ghost use Rattle.std.specs.Prelude.{◌≡◌, ◌<◌, length, Ok, Some, IfOk, MatchResult};
 ghost use Rattle.recipe.specs.Recipes.{file_of, program, own_edges};
 ghost use Rattle.recipe.specs.Writing.{file_with};
 ghost use Rattle.inspect.specs.declared.written.Written.TheVariants.{Same};
+ghost use Rattle.inspect.specs.Phrases.{written_text};
 
 use recipe::{Edge, Recipe, Refusal};
 use std::alloc::{AllocError, Global};
@@ -16,6 +17,8 @@ pub(crate) enum Written {
 }
 
 impl fmt::Display for Written {
+    ghost output = { λ w. Some (written_text w) };
+
     fn fmt<W: fmt::Write>(&self, f: &mut fmt::Formatter<W>) -> fmt::Result {
         match self {
             Written::Same { bytes } => write!(f, "{bytes} bytes, the same file"),
