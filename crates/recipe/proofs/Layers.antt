@@ -1,10 +1,9 @@
 -- Lists that are made of records, one after another, each of the same width: their length, and what is read of them by number. Tests at each number below n.
 use Rattle.std.proofs.Common.{◌≡◌, ℕ, zero, suc, ◌+◌, ◌*◌, ◌<◌, ◌≤◌, Bool, true, false, ◌||◌, ◌⊎◌, List, [], ◌∷◌, ◌++◌, length, get_or, sym, refl, ◌∙◌, inl, inr, append_assoc, zero-add, mul-zero, mul-suc, arith, length-append}
 use Rattle.std.specs.Bool.{MatchBool}
-use Rattle.std.specs.List.{flat_map, range_with_len, AllByRecursion as All, AllWithin, HoldsAt}
+use Rattle.std.specs.List.{flat_map, range_with_len, AllWithin, HoldsAt}
 use Rattle.std.proofs.lemmas.List.FromFn.{length-range_with_len, get_or-range_with_len}
 use Rattle.std.proofs.lemmas.List.{get_or-append-add, get_or_append_left}
-use Rattle.std.proofs.ByRecursion.{All-append}
 use Rattle.std.proofs.lemmas.Bool.{and_from, and_parts, or_left, or_right, or_cases, cases_lt, cases_Bool, both_ways, false≢true}
 use Rattle.recipe.specs.Offence.{all_below, any_below}
 
@@ -37,11 +36,6 @@ module _ {X : Type 0} (enc : X → List ℕ) (w : ℕ) (d : X) where
       rw (append_assoc (enc x) (flat_map enc xs) rest)
       (get_d_after (enc x) (flat_map enc xs ++ rest) w (w * k + i) j 0 e g
       ∙ get_or_joined xs rest k i (w * k + i) (λ a b. wide (suc a) (omega arith)) (omega arith) m refl)
-
--- what holds of each byte of each record holds of each byte of the list
-pub all_joined : {X : Type 0} (enc : X → List ℕ) (P : ℕ → Type 0) (d : X) (xs : List X) → ((k : ℕ) → k < length xs → All P (enc (get_or xs k d))) → All P (flat_map enc xs)
-all_joined enc P d [] h = tt
-all_joined enc P d (x ∷ xs) h = All-append P (enc x) (flat_map enc xs) (h 0 (omega arith)) (all_joined enc P d xs (λ k l. h (suc k) (omega arith)))
 
 pub all_below_from : (n : ℕ) (f : ℕ → Bool) → ((k : ℕ) → k < n → f k ≡ true) → all_below n f ≡ true
 unfolding all_below

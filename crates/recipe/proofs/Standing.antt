@@ -9,12 +9,13 @@ use Rattle.model.specs.Lawful.{Lawful}
 use Rattle.model.proofs.Edges.{counted_rules}
 use Rattle.model.specs.Program.{no_method, no_node, no_edge, no_row, method_at, EdgeRules, counted_after}
 use Rattle.recipe.specs.declared.Recipe.{Recipe}
-use Rattle.recipe.specs.Bytes.{method_in, node_in, edge_in, cell_in}
+use Rattle.recipe.specs.Bytes.{method_in, node_in, edge_in, cell_in, program_of, edges_of}
 use Rattle.recipe.specs.Format.{bytes_of}
-use Rattle.recipe.specs.Recipes.{file_of, program, own_edges, cell_of}
+use Rattle.recipe.specs.Recipes.{file_of, program, own_edges, ReadsAs, cell_of}
 use Rattle.recipe.specs.Spans.{Summed}
 use Rattle.recipe.proofs.Places.{laid}
 use Rattle.model.proofs.Standing.{rights_small}
+use Rattle.recipe.proofs.ReadBack.{read_program, read_edges}
 use Rattle.recipe.proofs.Scans.{methods_length, nodes_length, edges_length, rows_length, method_at_lem, edge_at, row_at, summed}
 use Rattle.recipe.proofs.WriteBack.{Checked, checked, node_some, lawful, written}
 
@@ -29,6 +30,10 @@ stands r = lawful (file_of r) r.layout.bytes (laid r.layout) (passes r)
 
 pub is_written : (r : Recipe) → file_of r ≡ bytes_of (program r) (own_edges r)
 is_written r = written (file_of r) r.layout.bytes (laid r.layout) (passes r)
+
+-- a recipe with these bytes is the one that they were written for
+pub reads_as : (bs : List ℕ) (r : Recipe) → file_of r ≡ bs → ReadsAs bs r
+reads_as bs r e p es law is = (ap program_of (e ∙ is) ∙ read_program p es law, ap edges_of (e ∙ is) ∙ read_edges p es law)
 
 pub methods_count : (r : Recipe) → r.layout.contents.methods.count ≡ length (program r).methods
 methods_count r = let h = methods_length (file_of r) in omega arith

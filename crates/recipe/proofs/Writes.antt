@@ -1,5 +1,5 @@
 -- The file that write puts together, piece by piece, is the file of the recipe's program with the edges that count.
-use Rattle.std.proofs.Common.{◌≡◌, ℕ, ◌+◌, ◌-◌, ◌*◌, ◌≤◌, List, [], ◌++◌, length, take, drop, sym, refl, ap, ◌∙◌, append_assoc, arith, length-append, length-drop, length-take}
+use Rattle.std.proofs.Common.{◌≡◌, ℕ, ◌+◌, ◌-◌, ◌*◌, ◌≤◌, List, [], ◌++◌, length, take, drop, subst, sym, refl, ap, ◌∙◌, append_assoc, arith, length-append, length-drop, length-take}
 use Rattle.std.specs.List.{flat_map}
 use Rattle.std.proofs.lemmas.List.{take_at, append-nil, take_all, drop_all}
 use Rattle.model.specs.declared.Edge.{Edge}
@@ -10,7 +10,7 @@ use Rattle.recipe.specs.declared.Recipe.{Recipe}
 use Rattle.recipe.specs.Bytes.{edges_at, end_at, program_of, edges_of}
 use Rattle.recipe.specs.Format.{method_bytes, node_bytes, edge_bytes, row_bytes, contents_bytes, bytes_of, Legal}
 use Rattle.recipe.specs.Recipes.{file_of, program, own_edges}
-use Rattle.recipe.specs.Writing.{listed_edges, file_with}
+use Rattle.recipe.specs.Writing.{listed_edges, file_with, AllCount, FileOf}
 use Rattle.recipe.proofs.Pieces.{put_after}
 use Rattle.recipe.proofs.Places.{laid, edges_place, rows_place}
 use Rattle.recipe.proofs.ReadBack.{length_bytes, length_edges, read_program, read_edges}
@@ -132,3 +132,19 @@ module _ (r : Recipe) where
       let law = stands r in
       let few : take 4096 (own_edges r) ≡ own_edges r = take_all 4096 (own_edges r) law.few_edges in
       ap (file_with (program r)) e ∙ ap (λ l. bytes_of (program r) (counted (program r) l)) few ∙ ap (bytes_of (program r)) (lawful_counted (program r) (own_edges r) law) ∙ sym (is_written r)
+
+  -- edges all of which count are written as they are
+  pub all_listed : (es : List Edge) → AllCount (program r) es → listed_edges (program r) es ≡ es
+  all_listed es all = ap (counted (program r)) (take_all 4096 es all.0) ∙ all.1
+
+  -- the beginning of an output that has the file of such edges
+  pub file_of_all : (es : List Edge) (out rest : List ℕ) → AllCount (program r) es → out ≡ file_with (program r) es ++ rest → FileOf (program r) es (take (length (file_with (program r) es)) out)
+  file_of_all es out rest all e =
+      let file = file_with (program r) es in
+      let front : take (length file) out ≡ file = ap (take (length file)) e ∙ take_at file rest (length file) refl in
+      record {
+        legal = subst Legal (sym front) (written_legal es);
+        bytes = front ∙ ap (bytes_of (program r)) (all_listed es all);
+        program = ap program_of front ∙ written_program es;
+        edges = ap edges_of front ∙ written_edges es ∙ all_listed es all;
+      }

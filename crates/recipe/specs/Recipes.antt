@@ -1,12 +1,14 @@
 -- What a recipe stands for: its program and its own edges.
-use Rattle.std.specs.Prelude.{ℕ, true, cond, List, [], ◌∷◌, length, Some, None, Option, nat_lt, slice_index_or}
+use Rattle.std.specs.Prelude.{◌≡◌, ℕ, true, cond, List, [], ◌∷◌, length, Some, None, Option, nat_lt, slice_index_or}
 use Rattle.std.specs.List.{slice_get}
 use Rattle.model.specs.declared.Edge.{Edge}
 use Rattle.model.specs.declared.Kind.TheVariants.{Return}
+use Rattle.model.specs.Lawful.{Lawful}
 use Rattle.model.specs.Program.{Program, no_row, home}
 use Rattle.recipe.specs.Bytes.{program_of, edges_of}
 use Rattle.recipe.specs.declared.Draft.{Draft}
 use Rattle.recipe.specs.declared.Recipe.{Recipe}
+use Rattle.recipe.specs.Format.{bytes_of}
 
 -- the bytes of the file that is held
 abbrev pub file_of : Recipe → List ℕ
@@ -21,6 +23,10 @@ program r = program_of (file_of r)
 
 abbrev pub own_edges : Recipe → List Edge
 own_edges r = edges_of (file_of r)
+
+-- whatever lawful program and edges the bytes were written for, the recipe has these
+abbrev pub ReadsAs : List ℕ → Recipe → Type 0
+ReadsAs bs r = (p : Program) (es : List Edge) → Lawful p es → bs ≡ bytes_of p es → (program r ≡ p) × (own_edges r ≡ es)
 
 -- the method of a node, if there is such a node
 abbrev pub method_of : Program → ℕ → Option ℕ

@@ -9,6 +9,7 @@ ghost use Rattle.model.specs.Program.{node_at, is_edge, rises_after};
 ghost use Rattle.recipe.specs.Bytes.{node_in};
 ghost use Rattle.recipe.specs.Offence.{any_below, kind_fits, record_fits};
 ghost use Rattle.recipe.specs.Format.{Legal};
+ghost use Rattle.recipe.specs.Recipes.{ReadsAs};
 
 use crate::spans::Divided;
 use crate::{Draft, Layout, Recipe, Refusal};
@@ -181,6 +182,7 @@ pub fn check<'a>(draft: Draft<'a>, recipe: &mut Recipe<'a>) -> Result<(), Refusa
     ensures answer { result_err result ≡ first_offence (check_tests draft.entry.layout.file.now) }
     ensures filled { MatchResult result (λ _. recipe.new.layout.file.now ≡ draft.entry.layout.file.now) (λ _. recipe.new ≡ recipe.old) }
     ensures legal { Decides (is_ok result) (Legal draft.entry.layout.file.now) }
+    ensures means { IfOk result (λ _. ReadsAs draft.entry.layout.file.now recipe.new) }
 {
     *recipe = draft.layout.checked()?;
     Ok(())
@@ -191,6 +193,7 @@ pub fn recipe_of(file: &[u8]) -> Result<Recipe<'_>, Refusal>
     ensures answer { result_err result ≡ first_offence (take_tests file.now ++ check_tests file.now) }
     ensures filled { IfOk result (λ recipe. recipe.layout.file.now ≡ file.now) }
     ensures legal { Decides (is_ok result) (Legal file.now) }
+    ensures means { IfOk result (ReadsAs file.now) }
 {
     Layout::read(file)?.checked()
 }
@@ -200,6 +203,7 @@ pub fn read<'a>(file: &'a [u8], recipe: &mut Recipe<'a>) -> Result<(), Refusal>
     ensures answer { result_err result ≡ first_offence (take_tests file.now ++ check_tests file.now) }
     ensures filled { MatchResult result (λ _. recipe.new.layout.file.now ≡ file.now) (λ _. recipe.new ≡ recipe.old) }
     ensures legal { Decides (is_ok result) (Legal file.now) }
+    ensures means { IfOk result (λ _. ReadsAs file.now recipe.new) }
 {
     *recipe = recipe_of(file)?;
     Ok(())

@@ -1,10 +1,10 @@
 // Writes the file of a recipe with the edges of a list that count.
-ghost use Rattle.std.specs.Prelude.{◌≡◌, ℕ, ◌+◌, ◌*◌, ◌/◌, ◌%◌, ◌<◌, ◌≤◌, List, ◌++◌, length, take, drop};
+ghost use Rattle.std.specs.Prelude.{◌≡◌, ℕ, ◌+◌, ◌*◌, ◌/◌, ◌%◌, ◌<◌, ◌≤◌, List, ◌++◌, length, take, drop, IfOk};
 ghost use Rattle.std.specs.List.{flat_map};
 ghost use Rattle.recipe.specs.Bytes.{program_of, edges_of};
 ghost use Rattle.recipe.specs.Format.{word, edge_bytes, contents_bytes, Legal};
 ghost use Rattle.recipe.specs.Recipes.{file_of, program, own_edges};
-ghost use Rattle.recipe.specs.Writing.{listed_edges, file_with, write_answer, write_output};
+ghost use Rattle.recipe.specs.Writing.{listed_edges, file_with, write_answer, write_output, AllCount, FileOf};
 
 use crate::{Recipe, Refusal};
 use model::Edge;
@@ -93,6 +93,7 @@ pub fn write(recipe: &Recipe, edges: &[Edge], out: &mut [u8]) -> Result<usize, R
     ensures program { program_of (file_with (program recipe.now) edges.now) ≡ program recipe.now }
     ensures edges { edges_of (file_with (program recipe.now) edges.now) ≡ listed_edges (program recipe.now) edges.now }
     ensures same { edges.now ≡ own_edges recipe.now → file_with (program recipe.now) edges.now ≡ file_of recipe.now }
+    ensures means { AllCount (program recipe.now) edges.now → IfOk result (λ n. FileOf (program recipe.now) edges.now (take n out.new)) }
 {
     let many = recipe.count(edges);
     let layout = &recipe.layout;
