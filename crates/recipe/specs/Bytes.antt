@@ -66,7 +66,7 @@ abbrev pub with_mark : Option Kind → ℕ → ℕ → Option Node
 with_mark None mark flags = None
 with_mark (Some k) mark flags = cond (nat_lt mark 32) (Some (record { kind = k; mark = mark; entry = (flags % 2 == 1) })) None
 
--- the node that a record of eight bytes is, if it is one: kind, mark, flags, callee, two of grant (a check's required set), two of accept
+-- the node that eight bytes stand for, if they do: one byte each for what it is, its mark, its flags and the method it calls, then the words grant (which a check requires) and accept
 abbrev pub record_of : ℕ → ℕ → ℕ → ℕ → ℕ → ℕ → ℕ → ℕ → Option Node
 record_of kind mark flags callee g1 g0 a1 a0 = with_mark (kind_of kind flags callee (g1 * 256 + g0) (a1 * 256 + a0)) mark flags
 

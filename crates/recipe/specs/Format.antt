@@ -37,7 +37,7 @@ operands (Call callee grant accept privileged) = callee ∷ (word grant ++ word 
 operands (Check required) = 0 ∷ (word required ++ word 0)
 operands Return = 0 ∷ (word 0 ++ word 0)
 
--- a node record, eight bytes: kind, mark, flags, callee, two of grant, two of accept
+-- a node record is eight bytes wide: one each for the kind, the mark and the flags, and five of operands
 abbrev pub node_bytes : Node → List ℕ
 node_bytes n = kind_number n.kind ∷ n.mark ∷ flags_of n.entry n.kind ∷ operands n.kind
 

@@ -141,7 +141,7 @@ cell_test bs r c = nat_lt (cell_in bs r c) (count_in bs 3) || cell_in bs r c == 
 unfoldable pub row_test : List ℕ → ℕ → Bool
 row_test bs r = all_below 32 (cell_test bs r)
 
--- check: methods, nodes, methods lacking an entry, edges, rows
+-- check goes through the records in the order of the file, but asks for the entry of a method only once all nodes are right
 abbrev pub check_tests : List ℕ → List (Bool × Refusal)
 check_tests bs =
     each (count_in bs 0) (method_test bs) BadMethod

@@ -7,7 +7,7 @@ use Rattle.recipe.specs.declared.grounds.Refusal.TheVariants.{ShortOutput}
 use Rattle.recipe.specs.Bytes.{program_of, edges_of}
 use Rattle.recipe.specs.Format.{bytes_of, Legal}
 
--- the edges of a list that count: of an edge list the first 4,096 places are read
+-- the edges of a list that count; what lies past its first 4,096 places is not looked at
 abbrev pub listed_edges : Program → List Edge → List Edge
 listed_edges p es = counted p (take 4096 es)
 

@@ -1,4 +1,4 @@
-// Checks a draft: methods, nodes, methods lacking an entry, edges, rows, in this order.
+// Checks a draft in five stages: the methods, the nodes, whether each method has an entry, the edges, and the rows.
 // Each stage goes over the numbers of its records, some with a running sum: what is read by number and refused by number has no iterator that is plainer.
 ghost use Rattle.std.specs.Prelude.{◌≡◌, ℕ, suc, ◌+◌, ◌*◌, ◌<◌, ◌≤◌, true, ◌++◌, is_ok, IfOk, Decides, MatchResult};
 ghost use Rattle.std.specs.Result.{result_err};

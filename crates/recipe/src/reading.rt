@@ -122,7 +122,7 @@ impl Recipe<'_> {
         self.node_at(n).entry && self.method_of(n) == Some(method)
     }
 
-    // Whether e is an edge by the rules: from a node that is no return to a node of the same method.
+    // Whether e is an edge by the rules: it leaves no return, and stays within a method.
     pub fn is_edge(&self, e: Edge) -> bool
         ensures { result ≡ is_edge (program self.now) e }
     {

@@ -56,7 +56,7 @@ const BAD_NODE: &str =
     "this node record breaks its rules (kind, mark, flags, an unused field, the callee, or a set outside its method's rights)";
 
 const BAD_EDGE: &str =
-    "this edge does not lead from a node that is no return to a node of the same method, or does not rise above the edge before it";
+    "this edge names a node that is not there, or leaves a return, or leads out of its method, or does not rise above the edge before it";
 
 const BAD_ROW: &str = "a cell of this row is neither a row's number nor 255";
 
@@ -69,7 +69,7 @@ const UNFIT_TABLE: &str =
     "the edge table is too short for the recipe or longer than 4096 places, or the fact table is longer than 65536";
 
 const NOT_AN_EDGE: &str =
-    "this pair of nodes is no edge: an edge leads from a node that is no return to a node of the same method";
+    "this pair is no edge: both have to be nodes of one method, and the first of them no return";
 
 const ENDLESS_TRACE: &str = "the trace has 4294967295 nodes or more";
 

@@ -117,7 +117,7 @@ fn only_edges_that_count_are_written(rt: HostRuntime) -> Result<(), Fail> {
     Ok(())
 }
 
-// Of a long list the first 4,096 places are read: behind so many edges that do not count, one that does.
+// A list is looked at up to 4,096 places and no further: an edge that counts, behind so many that do not.
 #[test]
 fn no_place_past_the_last_is_read(rt: HostRuntime) -> Result<(), Fail> {
     let a = recipe_of(recipe_a::file())?;
