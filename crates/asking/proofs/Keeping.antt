@@ -10,8 +10,7 @@ use Rattle.std.proofs.lemmas.List.Sorted.{IsPermutation-sym, IsPermutation-appen
 use Rattle.std.proofs.lemmas.Map.Keys.{IsDistinct-push, IsDistinct-IsPermutation}
 use Rattle.model.specs.declared.Edge.{Edge}
 use Rattle.model.specs.Links.{Among, is_listed, linked}
-use Rattle.model.specs.Program.{EdgeRules, is_edge, counted}
-use Rattle.model.specs.Runs.{Leads}
+use Rattle.model.specs.Program.{EdgeRules, is_edge, counted, Leads}
 use Rattle.model.specs.Searches.{Sound}
 use Rattle.model.proofs.Edges.{edge_rules}
 use Rattle.model.proofs.Links.{link_laws}

@@ -7,8 +7,7 @@ use Rattle.model.specs.declared.Verdict.{Verdict as Outcome}
 use Rattle.model.specs.declared.Verdict.TheVariants.{Safe, Unsafe, Full, Unfinished}
 use Rattle.model.specs.Facts.{Setting, Yields, RunGoesBad}
 use Rattle.model.specs.Links.{Among}
-use Rattle.model.specs.Program.{EdgeRules, counted}
-use Rattle.model.specs.Runs.{Leads}
+use Rattle.model.specs.Program.{EdgeRules, counted, Leads}
 use Rattle.model.specs.Searches.{HeldAt, Different, BadTrace, first_trace, facts_of}
 use Rattle.model.specs.Tables.{capped, row_at}
 use Rattle.recipe.specs.declared.grounds.Refusal.{Refusal}

@@ -2,8 +2,7 @@
 use Rattle.std.proofs.Common.{◌≡◌, ℕ, ◌<◌, ◌≤◌, ◌⊎◌, true, List, [], ◌∷◌, ◌++◌, length, get_or, ap, sym, ◌∙◌, inl, inr, arith}
 use Rattle.std.proofs.lemmas.Bool.{cases_lt}
 use Rattle.std.proofs.lemmas.List.{get_or_append_left, get_or_at, length_push}
-use Rattle.model.specs.Access.{is_entry_of}
-use Rattle.model.specs.Program.{Program}
+use Rattle.model.specs.Program.{Program, is_entry_of}
 
 pub entries_more : (p : Program) (xs ys : List ℕ) (n : ℕ) → ys ≡ xs ++ n ∷ [] → is_entry_of p (length xs) n ≡ true → ((k : ℕ) → k < length xs → is_entry_of p k (get_or xs k 0) ≡ true)
     → (k : ℕ) → k < length ys → is_entry_of p k (get_or ys k 0) ≡ true

@@ -1,7 +1,6 @@
 // What both access rules make of each call and each check, and what the table watch does on the marks that the recipe uses.
 ghost use Rattle.std.specs.Prelude.{◌≡◌, ◌==◌, ℕ, ◌<◌, true, length, IfOk, slice_index};
-ghost use Rattle.model.specs.Access.{is_entry_of};
-ghost use Rattle.model.specs.Program.{node_at};
+ghost use Rattle.model.specs.Program.{node_at, is_entry_of};
 ghost use Rattle.recipe.specs.Offence.{any_below};
 ghost use Rattle.recipe.specs.Recipes.{program};
 ghost use Rattle.inspect.specs.Phrases.{verb_text};

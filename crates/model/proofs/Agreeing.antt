@@ -6,13 +6,13 @@ use Rattle.model.specs.declared.Edge.{Edge}
 use Rattle.model.specs.declared.Frame.{Frame}
 use Rattle.model.specs.declared.Kind.{Kind}
 use Rattle.model.specs.declared.Kind.TheVariants.{Nop, Call, Check, Return}
-use Rattle.model.specs.Access.{Rule, is_entry_of, is_check, call_enters, call_returns, callee_of, asks_first, asks_enter, asks_pass, asks_back, rights_count, holds, grant_of, accept_of, privileged_of, required_of, history_enter, history_back, stack_enter, set_first, set_pass, callee_rights, history, stack_inspection}
+use Rattle.model.specs.Access.{Rule, is_check, call_enters, call_returns, callee_of, asks_first, asks_enter, asks_pass, asks_back, rights_count, holds, grant_of, accept_of, privileged_of, required_of, history_enter, history_back, stack_enter, set_first, set_pass, callee_rights, history, stack_inspection}
 use Rattle.model.specs.Agreement.{RunTrace, HistoryAgrees, StackAgrees}
 use Rattle.model.specs.Facts.{Setting, RunGoesBad}
 use Rattle.model.specs.Lawful.{Lawful, EdgesObey}
-use Rattle.model.specs.Program.{Program, method_at, node_at, rights_of, is_return}
+use Rattle.model.specs.Program.{Program, method_at, node_at, rights_of, is_return, is_entry_of, Leads}
 use Rattle.model.specs.Models.{Rights, State, rights_in, union, meet, Subset, static, static_of, HistoryStep, StackStep, Chain, begin, more, LeavesBad}
-use Rattle.model.specs.Runs.{Run, Leads, goes_on, is_call, returns_at, reads}
+use Rattle.model.specs.Runs.{Run, goes_on, is_call, returns_at, reads}
 use Rattle.model.specs.Searches.{BadTrace}
 use Rattle.model.specs.Watches.{Watch}
 use Rattle.model.proofs.Determined.{run_state}

@@ -4,7 +4,7 @@ use Rattle.std.specs.List.{ContainsAt as Has, AllByRecursion as All}
 use Rattle.std.proofs.ByRecursion.{All-append, All-weaker, has_append_left, has_append_right}
 use Rattle.std.proofs.lemmas.Bool.{cases_lt, cond-true, cond-false, cond_both, eqb-true, eq-eqb}
 use Rattle.model.specs.declared.Edge.{Edge}
-use Rattle.model.specs.Runs.{Leads}
+use Rattle.model.specs.Program.{Leads}
 use Rattle.model.specs.Tables.{each_of, each_from, targets}
 
 -- a list has its first element, what the rest has, and nothing else

@@ -3,9 +3,10 @@ use Rattle.std.proofs.Common.{◌≡◌, ℕ, ◌<◌, ◌≤◌, true, false, �
 use Rattle.std.proofs.lemmas.List.{get_or-take, get_or_append_left, get_or_push, length-take-le, length_push, take-append-le, take_at}
 use Rattle.std.proofs.lemmas.Bool.{cases_lt}
 use Rattle.model.specs.declared.Fact.{Fact}
-use Rattle.model.specs.Access.{is_entry_of, call_enters}
+use Rattle.model.specs.Access.{call_enters}
+use Rattle.model.specs.Program.{is_entry_of, Leads}
 use Rattle.model.specs.Facts.{Setting, kind_at}
-use Rattle.model.specs.Runs.{Leads, goes_on}
+use Rattle.model.specs.Runs.{goes_on}
 use Rattle.model.specs.Searches.{DerivedFrom, by_first, by_follow, by_enter, by_back}
 use Rattle.model.specs.Tables.{end_of, row_at, no_fact, first_row, follow_row, enter_row, back_row, is_held, joins}
 

@@ -6,10 +6,10 @@ use Rattle.std.proofs.lemmas.Bool.{false≢true, ltb-true, and_parts, cond-true,
 use Rattle.model.specs.declared.Fact.{Fact}
 use Rattle.model.specs.declared.Kind.{Kind}
 use Rattle.model.specs.declared.Kind.TheVariants.{Nop, Call, Check, Return}
-use Rattle.model.specs.Access.{is_entry_of, call_enters}
+use Rattle.model.specs.Access.{call_enters}
 use Rattle.model.specs.Facts.{Setting, kind_at, enter_point}
-use Rattle.model.specs.Program.{Program, node_at, home, is_return}
-use Rattle.model.specs.Runs.{Leads, goes_on, returns_at}
+use Rattle.model.specs.Program.{Program, node_at, home, is_return, is_entry_of, Leads}
+use Rattle.model.specs.Runs.{goes_on, returns_at}
 use Rattle.model.specs.Tables.{start_of, end_of, row_at, first_row, follow_row, enter_row, back_row, same_point, gives, joins, targets, node_count, first_at, firsts, follows, enter_at, enters, backs, return_at, call_at, offers_by, offers}
 use Rattle.model.proofs.Each.{has_here, has_map, all_each, has_each, all_targets, has_targets}
 use Rattle.model.proofs.Grounded.{Given, first, follow, enter, back}

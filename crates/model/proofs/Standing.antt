@@ -7,9 +7,9 @@ use Rattle.model.specs.declared.Edge.{Edge}
 use Rattle.model.specs.declared.Frame.{Frame}
 use Rattle.model.specs.declared.Kind.{Kind}
 use Rattle.model.specs.declared.Kind.TheVariants.{Nop, Call, Check, Return}
-use Rattle.model.specs.Access.{Rule, is_entry_of, is_return_of, call_enters, call_returns, callee_of}
+use Rattle.model.specs.Access.{Rule, call_enters, call_returns, callee_of}
 use Rattle.model.specs.Lawful.{Lawful, EdgesObey}
-use Rattle.model.specs.Program.{Program, no_method, method_at, node_at, no_edge, home, is_return, EdgeRules}
+use Rattle.model.specs.Program.{Program, no_method, method_at, node_at, no_edge, home, is_return, EdgeRules, is_entry_of, is_return_of}
 use Rattle.model.specs.Runs.{Run, start, pass, enter, back, is_call, returns_at}
 use Rattle.model.specs.Watches.{Watch}
 

@@ -5,7 +5,8 @@ use Rattle.model.specs.Access.{call_enters}
 use Rattle.model.specs.declared.Point.{Point}
 use Rattle.model.specs.Facts.{Setting, Derives, first, follow, Yields, RunIn, FactIsBad, frame_of, kind_at, enter_point, back_point, FactsSumUpRuns}
 use Rattle.model.specs.Facts.{enter as derive_enter, back as derive_back}
-use Rattle.model.specs.Runs.{Leads, returns_at, start, pass, enter, back}
+use Rattle.model.specs.Program.{Leads}
+use Rattle.model.specs.Runs.{returns_at, start, pass, enter, back}
 use Rattle.model.proofs.Standing.{enters_call}
 
 -- a frame, with the watch's state

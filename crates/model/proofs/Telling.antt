@@ -7,7 +7,8 @@ use Rattle.model.specs.Access.{call_enters}
 use Rattle.model.specs.declared.Point.{Point}
 use Rattle.model.specs.Facts.{Setting, Derives, Yields, kind_at, follow_point, enter_point, back_point}
 use Rattle.model.specs.Facts.{first as derive_first, follow as derive_follow, enter as derive_enter, back as derive_back}
-use Rattle.model.specs.Runs.{Leads, goes_on, returns_at}
+use Rattle.model.specs.Program.{Leads}
+use Rattle.model.specs.Runs.{goes_on, returns_at}
 use Rattle.model.specs.Searches.{Sound, HeldAt, Through, fact_in, Different, Told, facts_of}
 use Rattle.model.specs.Tables.{start_of, end_of, row_at, no_fact, capped, first_row, follow_row, enter_row, back_row, same_point, gives, is_held, Search, Tale, no_tale, tale_of, tale_at}
 use Rattle.model.proofs.Summaries.{facts_sum_up_runs}

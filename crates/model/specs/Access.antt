@@ -1,8 +1,8 @@
 -- Access rules as mathematics: what a rule is, and the two rules, history and stack inspection.
-use Rattle.std.specs.Prelude.{ℕ, Bool, true, false, cond, ◌&&◌, length, ◌==◌, bit_and, bit_or, nat_lt}
+use Rattle.std.specs.Prelude.{ℕ, Bool, true, false, cond, ◌&&◌, ◌==◌, bit_and, bit_or, nat_lt}
 use Rattle.model.specs.declared.Kind.{Kind}
 use Rattle.model.specs.declared.Kind.TheVariants.{Nop, Call, Check, Return}
-use Rattle.model.specs.Program.{Program, method_at, node_at, home, is_return, rights_of}
+use Rattle.model.specs.Program.{Program, method_at, node_at, rights_of, is_entry_of, is_return_of}
 
 -- how many values there are, and the four questions: the value at an entry of main; at an entry that a call reached with a value goes to; whether a check reached with a value is passed; and after a call reached with a value, whose callee returned at a node with a value
 pub record Rule : Type 0 where
@@ -11,13 +11,6 @@ pub record Rule : Type 0 where
   pub enter : ℕ → ℕ → ℕ → ℕ
   pub pass : ℕ → ℕ → Bool
   pub back : ℕ → ℕ → ℕ → ℕ → ℕ
-
--- n is an entry of method m; a return of it
-abbrev pub is_entry_of : Program → ℕ → ℕ → Bool
-is_entry_of p m n = nat_lt n (length p.nodes) && ((node_at p n).entry && home p.methods n == m)
-
-abbrev pub is_return_of : Program → ℕ → ℕ → Bool
-is_return_of p m n = nat_lt n (length p.nodes) && (is_return (node_at p n).kind && home p.methods n == m)
 
 -- the node is a call, and m an entry of its callee; x a return of its callee
 abbrev pub call_enters : Program → Kind → ℕ → Bool

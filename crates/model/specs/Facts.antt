@@ -4,9 +4,9 @@ use Rattle.model.specs.declared.Edge.{Edge}
 use Rattle.model.specs.declared.Frame.{Frame}
 use Rattle.model.specs.declared.Kind.{Kind}
 use Rattle.model.specs.declared.Point.{Point}
-use Rattle.model.specs.Access.{Rule, is_entry_of, call_enters}
-use Rattle.model.specs.Program.{Program, node_at}
-use Rattle.model.specs.Runs.{Run, reads, Leads, goes_on, returns_at}
+use Rattle.model.specs.Access.{Rule, call_enters}
+use Rattle.model.specs.Program.{Program, node_at, is_entry_of, Leads}
+use Rattle.model.specs.Runs.{Run, reads, goes_on, returns_at}
 use Rattle.model.specs.Watches.{Watch}
 
 -- what an inquiry is about: a program, the edges that count, a rule and a watch

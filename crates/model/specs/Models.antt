@@ -2,9 +2,7 @@
 use Rattle.std.specs.Prelude.{◌≡◌, ℕ, ◌/◌, ◌%◌, ◌^◌, ◌<◌, Bool, true, false, ◌&&◌, ◌||◌, List, [], ◌∷◌, reverse, length, ◌==◌}
 use Rattle.model.specs.declared.Edge.{Edge}
 use Rattle.model.specs.declared.Kind.TheVariants.{Nop, Call, Check, Return}
-use Rattle.model.specs.Access.{is_entry_of}
-use Rattle.model.specs.Program.{Program, method_at, node_at, home}
-use Rattle.model.specs.Runs.{Leads}
+use Rattle.model.specs.Program.{Program, method_at, node_at, home, is_entry_of, Leads}
 use Rattle.model.specs.Watches.{Watch}
 
 -- a set of rights, by which rights it has

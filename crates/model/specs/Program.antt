@@ -1,5 +1,6 @@
 -- The program of a recipe as mathematics: methods, nodes and rows by number, which pairs of nodes may be edges, and which edges of a list count.
 use Rattle.std.specs.Prelude.{◌≡◌, ℕ, zero, suc, ◌+◌, ◌-◌, ◌<◌, Bool, true, false, cond, not, ◌&&◌, ◌||◌, ◌⊎◌, List, [], ◌∷◌, length, Some, None, Option, ◌==◌, bit_and, nat_lt, slice_index_or}
+use Rattle.std.specs.List.{ContainsAt as Has}
 use Rattle.model.specs.declared.Edge.{Edge}
 use Rattle.model.specs.declared.Kind.{Kind}
 use Rattle.model.specs.declared.Kind.TheVariants.{Nop, Call, Check, Return}
@@ -56,6 +57,13 @@ is_return (Call callee grant accept privileged) = false
 is_return (Check required) = false
 is_return Return = true
 
+-- n is an entry of method m; a return of it
+abbrev pub is_entry_of : Program → ℕ → ℕ → Bool
+is_entry_of p m n = nat_lt n (length p.nodes) && ((node_at p n).entry && home p.methods n == m)
+
+abbrev pub is_return_of : Program → ℕ → ℕ → Bool
+is_return_of p m n = nat_lt n (length p.nodes) && (is_return (node_at p n).kind && home p.methods n == m)
+
 -- the rules for an edge: it leads from a node that is no return to a node of the same method
 pub record EdgeRules (p : Program) (e : Edge) : Type 0 where
   pub leaves : e.from < length p.nodes
@@ -66,6 +74,10 @@ pub record EdgeRules (p : Program) (e : Edge) : Type 0 where
 -- the rules for an edge, as a test
 abbrev pub is_edge : Program → Edge → Bool
 is_edge p e = nat_lt e.from (length p.nodes) && (nat_lt e.to (length p.nodes) && (not (is_return (node_at p e.from).kind) && home p.methods e.from == home p.methods e.to))
+
+-- an edge of the list leads from a to b
+abbrev pub Leads : List Edge → ℕ → ℕ → Type 0
+Leads es a b = Has es (record { from = a; to = b })
 
 -- e rises above d: by from, and then by to
 abbrev pub Rises : Edge → Edge → Type 0

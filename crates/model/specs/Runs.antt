@@ -1,21 +1,16 @@
 -- Runs: how control moves through a program under a rule and a watch, at any length and call depth.
 use Rattle.std.specs.Prelude.{◌≡◌, ℕ, Bool, true, false, ◌&&◌, List, [], ◌∷◌, length, nat_lt}
-use Rattle.std.specs.List.{ContainsAt as Has}
 use Rattle.model.specs.declared.Edge.{Edge}
 use Rattle.model.specs.declared.Frame.{Frame}
 use Rattle.model.specs.declared.Kind.{Kind}
 use Rattle.model.specs.declared.Kind.TheVariants.{Nop, Call, Check, Return}
-use Rattle.model.specs.Access.{Rule, is_entry_of, call_enters}
-use Rattle.model.specs.Program.{Program, node_at, is_return}
+use Rattle.model.specs.Access.{Rule, call_enters}
+use Rattle.model.specs.Program.{Program, node_at, is_return, is_entry_of, Leads}
 use Rattle.model.specs.Watches.{Watch}
 
 -- what the watch reads where a run comes to a node: the node's mark
 abbrev pub reads : Program → ℕ → ℕ
 reads p n = (node_at p n).mark
-
--- an edge of the list leads from a to b
-abbrev pub Leads : List Edge → ℕ → ℕ → Type 0
-Leads es a b = Has es (record { from = a; to = b })
 
 -- a run at node n with value v may follow an edge: n is a nop, or a check that is passed
 abbrev pub goes_on : Rule → Kind → ℕ → ℕ → Bool

@@ -5,11 +5,12 @@ use Rattle.model.specs.declared.Fact.{Fact}
 use Rattle.model.specs.declared.Frame.{Frame}
 use Rattle.model.specs.declared.Verdict.{Verdict}
 use Rattle.model.specs.declared.Verdict.TheVariants.{Safe, Unsafe, Full, Unfinished}
-use Rattle.model.specs.Access.{is_entry_of, call_enters}
+use Rattle.model.specs.Access.{call_enters}
+use Rattle.model.specs.Program.{is_entry_of, Leads}
 use Rattle.model.specs.declared.Point.{Point}
 use Rattle.model.specs.Facts.{Setting, Derives, Yields, RunIn, RunGoesBad, kind_at}
 use Rattle.model.specs.Links.{with_edges, Among}
-use Rattle.model.specs.Runs.{Leads, goes_on}
+use Rattle.model.specs.Runs.{goes_on}
 use Rattle.model.specs.Watches.{Watch}
 use Rattle.model.specs.Tables.{start_of, end_of, row_at, capped, first_row, follow_row, enter_row, back_row, is_held, joins, Search, opened, pending, dug, any_bad, first_bad, verdict_of, tale_at}
 

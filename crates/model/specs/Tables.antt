@@ -6,7 +6,8 @@ use Rattle.model.specs.declared.Kind.{Kind}
 use Rattle.model.specs.declared.Kind.TheVariants.{Nop, Call, Check, Return}
 use Rattle.model.specs.declared.Verdict.{Verdict}
 use Rattle.model.specs.declared.Verdict.TheVariants.{Safe, Unsafe, Full, Unfinished}
-use Rattle.model.specs.Access.{is_entry_of, call_enters}
+use Rattle.model.specs.Access.{call_enters}
+use Rattle.model.specs.Program.{is_entry_of}
 use Rattle.model.specs.declared.Point.{Point}
 use Rattle.model.specs.Facts.{Setting, kind_at, first_point, follow_point, enter_point, back_point}
 use Rattle.model.specs.Runs.{returns_at}

@@ -2,8 +2,7 @@
 // Each is an `if` and no `then`, in whose closure it is not known that the number is below the count.
 ghost use Rattle.std.specs.Prelude.{◌≡◌, ◌<◌, ◌≤◌, length};
 ghost use Rattle.std.specs.List.{slice_get};
-ghost use Rattle.model.specs.Access.{is_entry_of};
-ghost use Rattle.model.specs.Program.{node_at, home, is_edge, counts};
+ghost use Rattle.model.specs.Program.{node_at, home, is_edge, counts, is_entry_of};
 ghost use Rattle.recipe.specs.Recipes.{program, own_edges, method_of, cell_of};
 
 use crate::Recipe;

@@ -1,7 +1,7 @@
 // What both rules ask of the recipe.
 ghost use Rattle.std.specs.Prelude.{◌≡◌, ℕ, ◌<◌};
-ghost use Rattle.model.specs.Access.{is_return_of, set_first, set_pass};
-ghost use Rattle.model.specs.Program.{method_at, rights_of};
+ghost use Rattle.model.specs.Access.{set_first, set_pass};
+ghost use Rattle.model.specs.Program.{method_at, rights_of, is_return_of};
 ghost use Rattle.recipe.specs.Recipes.{program};
 
 use recipe::{Kind, Recipe};

@@ -7,10 +7,10 @@ use Rattle.model.specs.declared.Edge.{Edge}
 use Rattle.model.specs.declared.Frame.{Frame}
 use Rattle.model.specs.declared.Kind.{Kind}
 use Rattle.model.specs.declared.Kind.TheVariants.{Nop, Call, Check, Return}
-use Rattle.model.specs.Access.{Rule, is_entry_of, call_enters}
+use Rattle.model.specs.Access.{Rule, call_enters}
 use Rattle.model.specs.Agreement.{RunTrace}
-use Rattle.model.specs.Program.{Program, node_at, is_return}
-use Rattle.model.specs.Runs.{Run, start, pass, enter, back, reads, Leads, goes_on, is_call}
+use Rattle.model.specs.Program.{Program, node_at, is_return, is_entry_of, Leads}
+use Rattle.model.specs.Runs.{Run, start, pass, enter, back, reads, goes_on, is_call}
 use Rattle.model.specs.Watches.{Watch}
 use Rattle.model.proofs.Determined.{follows_from_trace}
 use Rattle.recipe.specs.declared.grounds.Refusal.{Refusal}

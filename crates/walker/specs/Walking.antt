@@ -5,8 +5,8 @@ use Rattle.model.specs.declared.Edge.{Edge}
 use Rattle.model.specs.declared.Frame.{Frame}
 use Rattle.model.specs.declared.Kind.{Kind}
 use Rattle.model.specs.declared.Kind.TheVariants.{Nop, Call, Check, Return}
-use Rattle.model.specs.Access.{Rule, is_entry_of}
-use Rattle.model.specs.Program.{Program, node_at}
+use Rattle.model.specs.Access.{Rule}
+use Rattle.model.specs.Program.{Program, node_at, is_entry_of}
 use Rattle.model.specs.Runs.{reads, is_call}
 use Rattle.model.specs.Watches.{Watch}
 use Rattle.recipe.specs.declared.grounds.Refusal.{Refusal}

@@ -2,7 +2,7 @@ use Rattle.std.proofs.Common.{ap, ◌∙◌, length, arith, rules}
 use borrow.Author.Tests.{tests}
 use Rattle.std.proofs.lemmas.Iterator.{YieldsList-from_range, YieldsList-from_map}
 use Rattle.std.proofs.lemmas.Iterator.Consumers.{YieldsList-at, YieldsList-from_filter}
-use Rattle.model.specs.Access.{is_entry_of}
+use Rattle.model.specs.Program.{is_entry_of}
 use Rattle.model.specs.Tables.{enter_row, offer_all}
 use Rattle.inquiry.specs.Inquiries.{scene_of, state_of}
 use Rattle.inquiry.proofs.Drained.{drained, each_passed}

@@ -1,6 +1,6 @@
 use Rattle.std.proofs.Common.{◌≡◌, ℕ, true, List, [], ◌∷◌, ◌++◌, length, ap, ◌∙◌, arith, rules}
 use Rattle.std.proofs.lemmas.List.{length_push}
-use Rattle.model.specs.Access.{is_entry_of}
+use Rattle.model.specs.Program.{is_entry_of}
 use Rattle.recipe.specs.Recipes.{program}
 use Rattle.inspect.proofs.Entries.{entries_more}
 use Rattle.inspect.proofs.ruled.first_entries.Goals.{then-is_entry_of+in_ok-push, else-is_entry_of}

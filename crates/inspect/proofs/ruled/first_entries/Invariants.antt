@@ -1,5 +1,5 @@
 use Rattle.std.proofs.Common.{◌≡◌, ℕ, ◌<◌, ◌≤◌, true, length, get_or}
-use Rattle.model.specs.Access.{is_entry_of}
+use Rattle.model.specs.Program.{is_entry_of}
 use Rattle.recipe.specs.Recipes.{program}
 use Rattle.inspect.proofs.ruled.first_entries.Given as goal
 
