@@ -56,7 +56,7 @@ unfolding counted_after
 counted_no p last e es h = cond-false (counts p last e) (e ∷ counted_after p (Some e) es) (counted_after p last es) h
 
 -- a fact of what counts holds if it does both where the first edge is kept and where it is passed over
-counted_both : (p : Program) (last : Option Edge) (e : Edge) (es : List Edge) (P : List Edge → Type 0) → (is_edge p e ≡ true → rises_after last e ≡ true → P (e ∷ counted_after p (Some e) es)) → P (counted_after p last es) → P (counted_after p last (e ∷ es))
+pub counted_both : (p : Program) (last : Option Edge) (e : Edge) (es : List Edge) (P : List Edge → Type 0) → (is_edge p e ≡ true → rises_after last e ≡ true → P (e ∷ counted_after p (Some e) es)) → P (counted_after p last es) → P (counted_after p last (e ∷ es))
 unfolding counted_after
 counted_both p last e es P kept passed =
     cond_both (counts p last e) (e ∷ counted_after p (Some e) es) (counted_after p last es) P

@@ -18,4 +18,5 @@ pub mod Tales
 pub mod Telling
 pub mod Traces
 pub mod Verdicts
+pub mod Watches
 pub mod Worked

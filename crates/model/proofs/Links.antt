@@ -1,5 +1,5 @@
 -- Laws of links: a new edge at its rising place counts beside those that did, and with more edges there are more runs and more facts.
-use Rattle.std.proofs.Common.{◌≡◌, ℕ, suc, ◌+◌, true, false, ◌&&◌, eqb, ◌⊎◌, List, [], ◌∷◌, ◌++◌, cond, length, take, drop, Some, None, Option, sym, refl, ap, ◌∙◌, subst, inl, inr, arith}
+use Rattle.std.proofs.Common.{◌≡◌, ℕ, suc, ◌+◌, ◌≤◌, true, false, ◌&&◌, eqb, ◌⊎◌, List, [], ◌∷◌, ◌++◌, cond, length, take, drop, Some, None, Option, sym, refl, ap, ◌∙◌, subst, inl, inr, arith}
 use Rattle.std.specs.List.{ContainsAt as Has}
 use Rattle.std.proofs.ByRecursion.{has_append_left, has_append_right, has_append_cases}
 use Rattle.std.proofs.lemmas.List.{length-append, take-append-drop}
@@ -14,7 +14,7 @@ use Rattle.model.specs.Links.{is_listed, place_after, linked, Among, with_edges,
 use Rattle.model.specs.Program.{Program, is_edge, rises, rises_after, counts, counted_after, counted}
 use Rattle.model.specs.Runs.{start, pass, enter, back}
 use Rattle.model.proofs.Each.{has_here, has_later, has_cases}
-use Rattle.model.proofs.Edges.{counted_yes, counted_no}
+use Rattle.model.proofs.Edges.{counted_yes, counted_no, counted_both}
 
 -- of two edges that are not the same one rises above the other
 rises_else : (d e : Edge) → (eqb d.from e.from && eqb d.to e.to) ≡ false → rises e d ≡ false → rises d e ≡ true
@@ -74,12 +74,39 @@ module _ (p : Program) (e : Edge) (right : is_edge p e ≡ true) where
   counted_linked : (es : List Edge) → is_listed (counted p es) e ≡ false → PutIn e (counted p es) (counted p (linked p es e))
   counted_linked es new = put_in None es refl new
 
+-- of a list with one edge more than another, put in, the length
+put_length : {e : Edge} {es fs : List Edge} → PutIn e es fs → length fs ≡ length es + 1
+put_length {e = e} h = ap length h.3 ∙ length-append h.0 (e ∷ h.1) ∙ omega (arith, ap length h.2, length-append h.0 h.1)
+
+-- no more edges count than there are, and where as many do, all of them do
+counted_few : (p : Program) (last : Option Edge) (es : List Edge) → length (counted_after p last es) ≤ length es
+unfolding counted_after
+counted_few p last [] = omega arith
+counted_few p last (d ∷ es) =
+    let kept = counted_few p (Some d) es in
+    let passed = counted_few p last es in
+    counted_both p last d es (λ cs. length cs ≤ suc (length es)) (λ right above. omega arith) (omega arith)
+
+counted_whole : (p : Program) (last : Option Edge) (es : List Edge) → length (counted_after p last es) ≡ length es → counted_after p last es ≡ es
+unfolding counted_after
+counted_whole p last [] h = refl
+counted_whole p last (d ∷ es) h =
+    let passed = counted_few p last es in
+    counted_both p last d es (λ cs. length cs ≡ suc (length es) → cs ≡ d ∷ es)
+    (λ right above same. ap (λ cs. d ∷ cs) (counted_whole p (Some d) es (omega arith))) (λ same. absurd (omega arith)) h
+
 -- there is one edge more than before
 linked_length : (p : Program) (es : List Edge) (e : Edge) → length (linked p es e) ≡ length es + 1
 linked_length p es e =
     let k = place_after p None es e in
     let whole = sym (length-append (take k es) (drop k es)) ∙ ap length (take-append-drop k es) in
     length-append (take k es) (e ∷ drop k es) ∙ omega arith
+
+-- where all edges count, all of them do with a new one
+linked_all : (p : Program) (es : List Edge) (e : Edge) → is_edge p e ≡ true → is_listed (counted p es) e ≡ false → counted p es ≡ es → counted p (linked p es e) ≡ linked p es e
+linked_all p es e right new all =
+    let more = put_length (counted_linked p e right es new) in
+    counted_whole p None (linked p es e) (more ∙ ap (λ ds. length ds + 1) all ∙ sym (linked_length p es e))
 
 -- edges with e put in have e
 put_has : {e : Edge} {es fs : List Edge} → PutIn e es fs → Has fs e
@@ -131,6 +158,8 @@ link_laws = record {
   counts_new = λ p es e right new. put_has (counted_linked p e right es new);
   counts_old = λ p es e right new. put_old (counted_linked p e right es new);
   counts_only = λ p es e d right new. put_only (counted_linked p e right es new) d;
+  counts_more = λ p es e right new. put_length (counted_linked p e right es new);
+  all_count = linked_all;
   more_runs = λ X es more. more_runs X es more;
   more_facts = λ X es more. more_yields X es more;
 }

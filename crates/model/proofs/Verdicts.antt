@@ -65,6 +65,15 @@ module _ (X : Setting) (places : ℕ) (s : Search) (told : Told X places s) wher
 pub verdict_means : (X : Setting) (places : ℕ) (s : Search) → Sound X places s → Means X places s (verdict_of X.watch s)
 verdict_means X places s h = led_means X places s (search_tells X places s h) (led X.watch s)
 
+-- working a fact finishes that one or none
+work_counts : (X : Setting) (places : ℕ) (s : Search) → (s.worked ≤ (work X places s).worked) × ((work X places s).worked ≤ s.worked + 1)
+unfolding work
+work_counts X places s =
+    let t = offer_all places s (offers X s.rows s.worked) in
+    let still = offers_worked places s (offers X s.rows s.worked) in
+    cond_both t.full t (record { rows = t.rows; worked = t.worked + 1; full = t.full }) (λ u. (s.worked ≤ u.worked) × (u.worked ≤ s.worked + 1))
+    (λ full. (omega arith, omega arith)) (λ free. (omega arith, omega arith))
+
 -- where something is left to work after a fact, the fact was finished
 work_on : (X : Setting) (places : ℕ) (s : Search) → pending (work X places s) ≡ true → (work X places s).worked ≡ s.worked + 1
 unfolding work
@@ -75,6 +84,16 @@ work_on X places s =
     (λ full h. absurd (both_ways t.full (not-true t.full (and_parts (not t.full) (ltb t.worked (length t.rows)) h).0) full)) (λ free h. omega arith)
 
 module _ (X : Setting) (places : ℕ) where
+  -- a dig leaves the worked facts worked, and finishes no more than it is allowed
+  dug_counts : (k : ℕ) (s : Search) → (s.worked ≤ (dug X places k s).worked) × ((dug X places k s).worked ≤ s.worked + k)
+  unfolding dug
+  dug_counts zero s = (omega arith, omega arith)
+  dug_counts (suc k) s =
+      let one = work_counts X places s in
+      let rest = dug_counts k (work X places s) in
+      cond_both (pending s) (dug X places k (work X places s)) s (λ t. (s.worked ≤ t.worked) × (t.worked ≤ s.worked + suc k))
+      (λ some. (omega arith, omega arith)) (λ none. (omega arith, omega arith))
+
   -- something is left after a dig only if something was before it, and the dig finished all that it was allowed
   dug_before : (k : ℕ) (s : Search) → pending (dug X places k s) ≡ true → pending s ≡ true
   unfolding dug
@@ -137,6 +156,9 @@ search_laws = record {
   ends = dug_ends;
   works_all = dug_works_all;
   rests = dug_rests;
+  keeps = λ X places k s. (dug_counts X places k s).0;
+  allows = λ X places k s. (dug_counts X places k s).1;
+  finishes = λ X places k s busy. let most = dug_counts X places k s in let all = dug_all X places k s busy in omega arith;
   links = links_sound;
   shows = λ X places s h. told_shows X places s (search_tells X places s h);
   adds = dug_adds;

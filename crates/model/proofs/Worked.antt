@@ -1,5 +1,5 @@
 -- The worked cases. Of recipe A both searches are computed, and a search that is through holds all that is yielded.
-use Rattle.std.proofs.Common.{◌≡◌, ℕ, ◌<◌, false, [], ◌∷◌, length, sym, refl, ap, ◌∙◌, subst, ap₂, arith}
+use Rattle.std.proofs.Common.{◌≡◌, ℕ, ◌<◌, false, [], ◌∷◌, map, length, sym, refl, ap, ◌∙◌, subst, ap₂, arith}
 use Rattle.std.proofs.lemmas.List.{length-map}
 use Rattle.std.proofs.lemmas.Bool.{both_ways}
 use Rattle.model.specs.declared.Point.{Point}
@@ -8,7 +8,7 @@ use Rattle.model.specs.Program.{home}
 use Rattle.model.specs.RecipeA.{history_a, stack_a}
 use Rattle.model.specs.Searches.{Through, Told, HeldAt, fact_in, trace_at, facts_of}
 use Rattle.model.specs.Tables.{is_held, targets, each_of, offers, Search, offer, offer_all, opened, work, dug, any_bad, first_bad, tales_after, tale_at}
-use Rattle.model.specs.Worked.{YieldsExactly, Worked}
+use Rattle.model.specs.Worked.{YieldsExactly, numbers, Worked}
 use Rattle.model.proofs.Searching.{opened_sound, dug_sound}
 use Rattle.model.proofs.Telling.{fact_of, fact_in_lem, search_tells}
 use Rattle.model.proofs.Verdicts.{none_bad}
@@ -114,5 +114,6 @@ worked_cases = record {
   history_facts = through_exact history_a 4 history_end history_told (refl, omega arith);
   history_good = through_good history_a 4 history_end history_told (refl, omega arith) history_none;
   stack_facts = through_exact stack_a 7 stack_end stack_told (refl, omega arith);
+  stack_rows = ap (λ (s : Search). map numbers s.rows) stack_search;
   stack_trace = ap (λ (s : Search). trace_at s.rows (first_bad stack_a.watch s.rows)) stack_search ∙ stack_first;
 }

@@ -37,5 +37,8 @@ pub record LinkLaws : Type 0 where
   pub counts_new : (p : Program) (es : List Edge) (e : Edge) → is_edge p e ≡ true → is_listed (counted p es) e ≡ false → Has (counted p (linked p es e)) e
   pub counts_old : (p : Program) (es : List Edge) (e : Edge) → is_edge p e ≡ true → is_listed (counted p es) e ≡ false → Among (counted p es) (counted p (linked p es e))
   pub counts_only : (p : Program) (es : List Edge) (e d : Edge) → is_edge p e ≡ true → is_listed (counted p es) e ≡ false → Has (counted p (linked p es e)) d → Has (counted p es) d ⊎ (d ≡ e)
+  -- so one edge more counts; and where all edges did, all of them do with the new one
+  pub counts_more : (p : Program) (es : List Edge) (e : Edge) → is_edge p e ≡ true → is_listed (counted p es) e ≡ false → length (counted p (linked p es e)) ≡ length (counted p es) + 1
+  pub all_count : (p : Program) (es : List Edge) (e : Edge) → is_edge p e ≡ true → is_listed (counted p es) e ≡ false → counted p es ≡ es → counted p (linked p es e) ≡ linked p es e
   pub more_runs : (X : Setting) (es : List Edge) {t : List ℕ} {fs : List Frame} {q : ℕ} → Among X.edges es → RunIn X t fs q → RunIn (with_edges X es) t fs q
   pub more_facts : (X : Setting) (es : List Edge) {s x : Point} → Among X.edges es → Yields X s x → Yields (with_edges X es) s x

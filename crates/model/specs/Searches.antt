@@ -1,5 +1,5 @@
 -- What holds of an inquiry: each row is derived from rows before it, and one that is through holds exactly the facts that are yielded.
-use Rattle.std.specs.Prelude.{◌≡◌, ℕ, ◌<◌, ◌≤◌, true, false, List, ◌++◌, map, reverse, length, take, ◌≢◌, IsPermutation, slice_index_or}
+use Rattle.std.specs.Prelude.{◌≡◌, ℕ, ◌+◌, ◌<◌, ◌≤◌, true, false, List, ◌++◌, map, reverse, length, take, ◌≢◌, IsPermutation, slice_index_or}
 use Rattle.model.specs.declared.Edge.{Edge}
 use Rattle.model.specs.declared.Fact.{Fact}
 use Rattle.model.specs.declared.Frame.{Frame}
@@ -112,6 +112,10 @@ pub record SearchLaws : Type 0 where
   -- such a dig leaves nothing to work, and where nothing is to be worked a dig changes nothing
   pub works_all : (X : Setting) (places k : ℕ) (s : Search) → Sound X places s → places ≤ k → pending (dug X places k s) ≡ false
   pub rests : (X : Setting) (places k : ℕ) (s : Search) → pending s ≡ false → dug X places k s ≡ s
+  -- a dig leaves the worked facts worked, and finishes no more than it is allowed; it finishes as many if there is still something to work
+  pub keeps : (X : Setting) (places k : ℕ) (s : Search) → s.worked ≤ (dug X places k s).worked
+  pub allows : (X : Setting) (places k : ℕ) (s : Search) → (dug X places k s).worked ≤ s.worked + k
+  pub finishes : (X : Setting) (places k : ℕ) (s : Search) → pending (dug X places k s) ≡ true → (dug X places k s).worked ≡ s.worked + k
   -- with more edges a search stays sound, if it is not full and all its facts are to be worked again
   pub links : (X : Setting) (es : List Edge) (places : ℕ) (s : Search) → Sound X places s → s.full ≡ false → Among X.edges es → Sound (with_edges X es) places (unworked s)
   -- where a row is bad, the trace of the first one is that of a bad run

@@ -1,5 +1,5 @@
 -- Watches as mathematics: what a watch is, and the two watches, the table and the wall.
-use Rattle.std.specs.Prelude.{ℕ, ◌+◌, Bool, cond, ◌&&◌, List, length, ◌==◌, bit_or, nat_lt, slice_index, slice_index_or}
+use Rattle.std.specs.Prelude.{◌≡◌, ℕ, ◌+◌, ◌<◌, Bool, true, cond, ◌&&◌, List, length, ◌==◌, bit_or, nat_lt, slice_index, slice_index_or}
 use Rattle.model.specs.Program.{no_row}
 
 -- how many states there are, the first one, the state after a mark, and which states are bad
@@ -37,3 +37,13 @@ wall_watch one two = record {
   step = λ q mark. cond (asks_step 4 q mark) (wall_step one two q mark) 0;
   bad = λ q. (q == 3);
 }
+
+-- a watch does not forget: on each of the 32 marks a bad state leads to a bad one
+abbrev pub StaysBad : Watch → Type 0
+StaysBad W = (q mark : ℕ) → q < W.states → mark < 32 → W.bad q ≡ true → W.bad (W.step q mark) ≡ true
+
+-- neither watch forgets, and in a table an undefined cell leads to the bad state
+pub record WatchLaws : Type 0 where
+  pub table_stays : (rows : List (List ℕ)) → StaysBad (table_watch rows)
+  pub wall_stays : (one two : ℕ) → StaysBad (wall_watch one two)
+  pub undefined : (rows : List (List ℕ)) (q mark : ℕ) → q < length rows → mark < 32 → slice_index (slice_index_or rows q no_row) mark ≡ 255 → (table_watch rows).bad ((table_watch rows).step q mark) ≡ true

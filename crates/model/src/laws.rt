@@ -4,11 +4,17 @@ ghost use Rattle.model.specs.Facts.{FactsSumUpRuns};
 ghost use Rattle.model.specs.Links.{LinkLaws};
 ghost use Rattle.model.specs.Runs.{FollowsFromTrace};
 ghost use Rattle.model.specs.Searches.{SearchLaws};
+ghost use Rattle.model.specs.Watches.{WatchLaws};
 ghost use Rattle.model.specs.Worked.{Worked};
 
 // The worked cases.
 pub fn worked_cases()
     ensures { Worked }
+{}
+
+// A watch that is bad stays so, and an undefined cell of a table leads to a bad state.
+pub fn watches_stay_bad()
+    ensures { WatchLaws }
 {}
 
 // One list of nodes is the trace of at most one run.

@@ -11,7 +11,7 @@ mod words;
 
 pub use laws::{
     facts_sum_up_runs, history_agrees, links_add_edges, runs_follow_from_traces, stack_agrees,
-    tables_tell_facts, worked_cases,
+    tables_tell_facts, watches_stay_bad, worked_cases,
 };
 
 // A method: its rights, right i counting 2^i, and how many nodes it has.
