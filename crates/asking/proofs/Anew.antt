@@ -1,18 +1,18 @@
 -- A fresh inquiry: the accepted links, in any order, are all accepted again, and a long dig comes to the same verdict and the same facts.
-use Rattle.std.proofs.Common.{◌≡◌, ◌+◌, false, not, ltb, List, [], ◌∷◌, ◌++◌, map, length, get_or, Ok, sym, refl, ap, ◌∙◌, subst, ap₂, ⊎_elim, arith, append_assoc, append-nil, length-append, IsPermutation}
-use Rattle.std.specs.List.{IsDistinct, ContainsAt as Has}
-use Rattle.std.proofs.ByRecursion.{has_append_left, has_append_right, has_append_cases}
+use Rattle.std.proofs.Common.{◌≡◌, ◌+◌, false, not, ltb, List, [], ◌∷◌, ◌++◌, map, length, get_or, Ok, sym, refl, ap, ◌∙◌, subst, ap₂, ⊎_elim, arith, append_assoc, append-nil, length-append, IsPermutation, Contains}
+use Rattle.std.specs.List.{IsDistinct}
 use Rattle.std.proofs.lemmas.Bool.{both_ways, false_from_ne_true, and_from, not_from_false, lt-ltb, cases_lt}
 use Rattle.std.proofs.lemmas.List.{get_or_at, get_or_append_left}
 use Rattle.std.proofs.lemmas.Map.Keys.{apart_from_distinct}
+use Rattle.std.proofs.lemmas.List.Elements.{Contains-append_left, Contains-append_right, Contains-append_cases}
 use Rattle.model.specs.declared.Edge.{Edge}
 use Rattle.model.specs.declared.Verdict.TheVariants.{Safe}
 use Rattle.model.specs.Links.{Among, is_listed}
 use Rattle.model.specs.Program.{counted}
 use Rattle.model.specs.Searches.{Through}
 use Rattle.model.specs.Tables.{Search, pending, any_bad}
-use Rattle.model.proofs.Each.{has_here}
 use Rattle.model.proofs.Verdicts.{search_laws}
+use Rattle.model.proofs.Lists.{has_here}
 use Rattle.walker.proofs.Walks.{leads_decides}
 use Rattle.inquiry.specs.Calls.{answered}
 use Rattle.asking.specs.declared.requests.Request.{Request}
@@ -27,11 +27,11 @@ use Rattle.asking.proofs.Keeping.{same_edge, same_edge_laws, Keeps, keeps_step, 
 use Rattle.asking.proofs.Moving.{more_goes_bad}
 
 -- of different edges one that stands behind others is none of them
-behind_others : (done todo : List Edge) (e : Edge) → IsDistinct same_edge (done ++ e ∷ todo) → Has done e → ⊥
+behind_others : (done todo : List Edge) (e : Edge) → IsDistinct same_edge (done ++ e ∷ todo) → Contains done e → ⊥
 behind_others done todo e apart h =
     let n = length-append done (e ∷ todo) in
     let at : same_edge (get_or (done ++ e ∷ todo) h.0 e) (get_or (done ++ e ∷ todo) (length done) e) ≡ false = apart_from_distinct same_edge (done ++ e ∷ todo) h.0 (length done) e apart h.1 (omega arith) in
-    let here = get_or_append_left done (e ∷ todo) e h.0 h.1 ∙ h.2 e in
+    let here = get_or_append_left done (e ∷ todo) e h.0 h.1 ∙ h.2 in
     let there = get_or_at done e todo e (length done) refl in
     both_ways (same_edge e e) (sym (ap₂ same_edge here there) ∙ at) (same_edge_laws.refl e)
 
@@ -49,18 +49,18 @@ module _ (C : Opened) (ls : List Edge) (top : Standing) (k : Keeps C ls top) (th
   some_free : (done todo : List Edge) (s : Standing) → done ++ todo ≡ ls → Keeps C done s → s.search.full ≡ false
   some_free done todo s split h =
       search_laws.fits (with_table C top.edges) (counted C.program s.edges) C.places top.search s.search k.sound through h.sound
-      (λ d had. k.has d (subst (λ es. Has (own ++ es) d) split (subst (λ es. Has es d) (append_assoc own done todo) (has_append_left (own ++ done) todo d (h.counts d had)))))
+      (λ d had. k.has d (subst (λ es. Contains (own ++ es) d) split (subst (λ es. Contains es d) (append_assoc own done todo) (Contains-append_left (own ++ done) todo d (h.counts d had)))))
 
   -- and accepts the next one
   next_allowed : (done todo : List Edge) (e : Edge) (s : Standing) → done ++ e ∷ todo ≡ ls → Keeps C done s → may_link C s e.from e.to ≡ Ok tt
   next_allowed done todo e s split h =
-      let has : Has ls e = subst (λ es. Has es e) split (has_append_right done (e ∷ todo) e (has_here e todo)) in
+      let has : Contains ls e = subst (λ es. Contains es e) split (Contains-append_right done (e ∷ todo) e (has_here e todo)) in
       let long = h.long in
       let n = length-append done (e ∷ todo) in
       let m = ap length split in
       link_passes C.program s.edges C.edge_places s.search.full e (k.right e has)
       (false_from_ne_true (is_listed (counted C.program s.edges) e) (λ listed.
-      ⊎_elim (k.new e has) (behind_others done todo e (subst (IsDistinct same_edge) (sym split) k.apart)) (has_append_cases own done e (h.counts e ((leads_decides (counted C.program s.edges) e.from e.to).0 listed)))))
+      ⊎_elim (k.new e has) (behind_others done todo e (subst (IsDistinct same_edge) (sym split) k.apart)) (Contains-append_cases own done e (h.counts e ((leads_decides (counted C.program s.edges) e.from e.to).0 listed)))))
       (⊎_elim (λ none. absurd (let z = ap length none in omega arith)) (λ space. omega arith) k.room)
       (some_free done (e ∷ todo) s split h)
 

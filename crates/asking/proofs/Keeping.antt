@@ -1,13 +1,13 @@
 -- What each request keeps: the search is sound, and the edge table is that of the opening with the accepted links.
-use Rattle.std.proofs.Common.{◌≡◌, ℕ, ◌+◌, ◌<◌, ◌≤◌, Bool, true, false, ◌&&◌, eqb, ◌⊎◌, List, [], ◌∷◌, ◌++◌, length, Ok, sym, refl, ◌∙◌, subst, inl, inr, ⊎_elim, arith, append_assoc, append-nil, ap, IsPermutation}
+use Rattle.std.proofs.Common.{◌≡◌, ℕ, ◌+◌, ◌<◌, ◌≤◌, Bool, true, false, ◌&&◌, eqb, ◌⊎◌, List, [], ◌∷◌, ◌++◌, length, Ok, sym, refl, ◌∙◌, subst, inl, inr, ⊎_elim, arith, append_assoc, append-nil, ap, IsPermutation, Contains}
 use Rattle.std.specs.Cmp.{IsEquivalence}
-use Rattle.std.specs.List.{IsDistinct, ContainsAt as Has}
-use Rattle.std.proofs.ByRecursion.{has_append_left, has_append_right, has_push, has_push_cases, has_shuffled}
+use Rattle.std.specs.List.{IsDistinct}
 use Rattle.std.proofs.lemmas.Bool.{false_from_ne_true}
 use Rattle.std.proofs.lemmas.Bool.Decides.{nat_tests, not_from_Decides}
 use Rattle.std.proofs.lemmas.List.{length_push, nil_from_length}
-use Rattle.std.proofs.lemmas.List.Sorted.{IsPermutation-sym, IsPermutation-append_right, length_permutation}
+use Rattle.std.proofs.lemmas.List.Sorted.{IsPermutation-sym, IsPermutation-append_right, length_permutation, Contains-permutation}
 use Rattle.std.proofs.lemmas.Map.Keys.{IsDistinct-push, IsDistinct-IsPermutation}
+use Rattle.std.proofs.lemmas.List.Elements.{Contains-append_left, Contains-append_right, Contains-push, Contains-push_cases}
 use Rattle.model.specs.declared.Edge.{Edge}
 use Rattle.model.specs.Links.{Among, is_listed, linked}
 use Rattle.model.specs.Program.{EdgeRules, is_edge, counted, Leads}
@@ -44,8 +44,8 @@ pub record Keeps (C : Opened) (ls : List Edge) (s : Standing) : Type 0 where
   pub long : length s.edges ≡ length C.own + length ls
   pub room : (ls ≡ []) ⊎ (length C.own + length ls ≤ C.edge_places)
   -- each link is an edge by the rules, and none that counted at the opening; and no two are the same
-  pub right : (e : Edge) → Has ls e → is_edge C.program e ≡ true
-  pub new : (e : Edge) → Has ls e → Has (counted C.program C.own) e → ⊥
+  pub right : (e : Edge) → Contains ls e → is_edge C.program e ≡ true
+  pub new : (e : Edge) → Contains ls e → Contains (counted C.program C.own) e → ⊥
   pub apart : IsDistinct same_edge ls
 
 module _ (C : Opened) where
@@ -54,8 +54,8 @@ module _ (C : Opened) where
   unfolding IsDistinct
   keeps_begun = record {
     sound = search_laws.opens (with_table C C.own) C.places;
-    counts = λ e h. has_append_left (counted C.program C.own) [] e h;
-    has = λ e h. subst (λ es. Has es e) (append-nil (counted C.program C.own)) h;
+    counts = λ e h. Contains-append_left (counted C.program C.own) [] e h;
+    has = λ e h. subst (λ es. Contains es e) (append-nil (counted C.program C.own)) h;
     long = omega arith;
     room = inl refl;
     right = λ e h. absurd (omega (arith, h.1));
@@ -77,27 +77,27 @@ module _ (C : Opened) where
     -- the edges that count are still those, and the links are one more
     link_counts : Among later (own ++ (ls ++ e ∷ []))
     link_counts d had =
-        subst (λ es. Has es d) (append_assoc own ls (e ∷ []))
-        (⊎_elim (λ old. has_append_left (own ++ ls) (e ∷ []) d (h.counts d old)) (λ same. subst (Has (own ++ ls ++ e ∷ [])) (sym same) (has_push (own ++ ls) e)) (link_laws.counts_only C.program s.edges e d right fresh had))
+        subst (λ es. Contains es d) (append_assoc own ls (e ∷ []))
+        (⊎_elim (λ old. Contains-append_left (own ++ ls) (e ∷ []) d (h.counts d old)) (λ same. subst (Contains (own ++ ls ++ e ∷ [])) (sym same) (Contains-push (own ++ ls) e)) (link_laws.counts_only C.program s.edges e d right fresh had))
 
     -- and those are edges that count
     link_has : Among (own ++ (ls ++ e ∷ [])) later
     link_has d had =
-        ⊎_elim (λ old. link_laws.counts_old C.program s.edges e right fresh d (h.has d old)) (λ same. subst (Has later) same (link_laws.counts_new C.program s.edges e right fresh))
-        (has_push_cases (own ++ ls) e d (subst (λ es. Has es d) (sym (append_assoc own ls (e ∷ []))) had))
+        ⊎_elim (λ old. link_laws.counts_old C.program s.edges e right fresh d (h.has d old)) (λ same. subst (Contains later) same (link_laws.counts_new C.program s.edges e right fresh))
+        (Contains-push_cases (own ++ ls) e d (subst (λ es. Contains es d) (sym (append_assoc own ls (e ∷ []))) had))
 
     -- the new one is none of those
-    link_other : Has (own ++ ls) e → ⊥
+    link_other : Contains (own ++ ls) e → ⊥
     link_other old = not_from_Decides (is_listed before e) (leads_decides before e.from e.to) fresh (h.has e old)
 
     -- no link is one that counted at the opening, and no two are the same
-    link_new : (d : Edge) → Has (ls ++ e ∷ []) d → Has own d → ⊥
-    link_new d had old = ⊎_elim (λ one. h.new d one old) (λ same. link_other (has_append_left own ls e (subst (Has own) (sym same) old))) (has_push_cases ls e d had)
+    link_new : (d : Edge) → Contains (ls ++ e ∷ []) d → Contains own d → ⊥
+    link_new d had old = ⊎_elim (λ one. h.new d one old) (λ same. link_other (Contains-append_left own ls e (subst (Contains own) (sym same) old))) (Contains-push_cases ls e d had)
 
     link_apart : IsDistinct same_edge (ls ++ e ∷ [])
     link_apart =
         IsDistinct-push same_edge_laws ls e h.apart
-        (false_from_ne_true (is_listed ls e) (λ listed. link_other (has_append_right own ls e ((leads_decides ls e.from e.to).0 listed))))
+        (false_from_ne_true (is_listed ls e) (λ listed. link_other (Contains-append_right own ls e ((leads_decides ls e.from e.to).0 listed))))
 
     -- so all that is kept, where the table has a place and the search is not full
     keeps_link : length s.edges < C.edge_places → s.search.full ≡ false → Keeps C (ls ++ e ∷ []) (linked_at C s e)
@@ -111,7 +111,7 @@ module _ (C : Opened) where
           has = link_has;
           long = omega arith;
           room = inr (omega arith);
-          right = λ d had. ⊎_elim (h.right d) (λ same. subst (λ f. is_edge C.program f ≡ true) same right) (has_push_cases ls e d had);
+          right = λ d had. ⊎_elim (h.right d) (λ same. subst (λ f. is_edge C.program f ≡ true) same right) (Contains-push_cases ls e d had);
           new = link_new;
           apart = link_apart;
         }
@@ -163,11 +163,11 @@ module _ (C : Opened) where
       let long = h.long in
       record {
         sound = h.sound;
-        counts = λ d had. has_shuffled (own ++ ls) (own ++ ms) d (IsPermutation-append_right own ls ms p) (h.counts d had);
-        has = λ d had. h.has d (has_shuffled (own ++ ms) (own ++ ls) d (IsPermutation-append_right own ms ls back) had);
+        counts = λ d had. Contains-permutation (own ++ ls) (own ++ ms) d (IsPermutation-append_right own ls ms p) (h.counts d had);
+        has = λ d had. h.has d (Contains-permutation (own ++ ms) (own ++ ls) d (IsPermutation-append_right own ms ls back) had);
         long = omega arith;
         room = ⊎_elim (λ none. inl (let n = ap length none in nil_from_length ms (omega arith))) (λ space. inr (omega arith)) h.room;
-        right = λ d had. h.right d (has_shuffled ms ls d back had);
-        new = λ d had. h.new d (has_shuffled ms ls d back had);
+        right = λ d had. h.right d (Contains-permutation ms ls d back had);
+        new = λ d had. h.new d (Contains-permutation ms ls d back had);
         apart = IsDistinct-IsPermutation same_edge same_edge_laws.symm ls ms p h.apart;
       }

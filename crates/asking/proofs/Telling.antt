@@ -1,6 +1,6 @@
 -- What the record of a call says: each clause is the law, of the requests before the reply.
 use Rattle.std.proofs.Common.{◌≡◌, ℕ, ◌+◌, ◌-◌, ◌<◌, ◌≤◌, ◌⊎◌, List, [], ◌∷◌, ◌++◌, length, get_or, take, drop, None, Ok, Err, Result, sym, refl, ap, ◌∙◌, subst, inl, inr, ⊎_elim, arith, append_assoc, append-nil, take-add}
-use Rattle.std.proofs.lemmas.List.{take-append-drop, drop_more, take_more, take_at, get_or_at, length-take-le}
+use Rattle.std.proofs.lemmas.List.{take-append-drop, drop_more, take_more, take_at, get_or_at, length-take-le, get_or_default}
 use Rattle.model.specs.declared.Verdict.{Verdict as Outcome}
 use Rattle.model.specs.declared.Verdict.TheVariants.{Safe, Unsafe, Full, Unfinished}
 use Rattle.model.specs.declared.Edge.{Edge}
@@ -28,7 +28,7 @@ use Rattle.asking.proofs.Going.{after_more, after_one, replies_more}
 
 -- edges that count obey the rules
 counted_obeys : (p : Program) (es : List Edge) → EdgesObey p (counted p es)
-counted_obeys p es e h = subst (EdgeRules p) (h.2 no_edge) (counted_rules p None es h.0 h.1)
+counted_obeys p es e h = subst (EdgeRules p) (get_or_default (counted p es) h.0 no_edge e h.1 ∙ h.2) (counted_rules p None es h.0 h.1)
 
 -- a list that begins with another has it as its front
 begins : (t rest out : List ℕ) → out ≡ t ++ rest → take (length t) out ≡ t

@@ -1,6 +1,5 @@
 -- What an allowed link comes to: the edges that are in use then, and that the search stays sound with them.
-use Rattle.std.proofs.Common.{◌≡◌, ℕ, ◌+◌, ◌≤◌, Bool, true, false, cond, List, ◌++◌, length, take, drop, Ok, Err, sym, refl, ap, ◌∙◌, subst, arith}
-use Rattle.std.specs.List.{ContainsAt as Has}
+use Rattle.std.proofs.Common.{◌≡◌, ℕ, ◌+◌, ◌≤◌, Bool, true, false, cond, List, ◌++◌, length, take, drop, Ok, Err, sym, refl, ap, ◌∙◌, subst, arith, Contains}
 use Rattle.std.proofs.lemmas.List.{length-take-le, take_at}
 use Rattle.model.specs.declared.Edge.{Edge}
 use Rattle.model.specs.Facts.{Setting}
@@ -55,4 +54,4 @@ link_sound i X edges es places s e within counting ok becomes sound =
     let used = i.opening.used in
     let now = ap (take (used + 1)) becomes ∙ linked_in_use X used edges e within in
     links_sound X (counted X.program (take (used + 1) es)) places s sound a.free
-    (λ d had. subst (λ ds. Has (counted X.program ds) d) (sym now) (link_laws.counts_old X.program (in_use i edges) e a.right a.new d (subst (λ ds. Has ds d) counting had)))
+    (λ d had. subst (λ ds. Contains (counted X.program ds) d) (sym now) (link_laws.counts_old X.program (in_use i edges) e a.right a.new d (subst (λ ds. Contains ds d) counting had)))

@@ -1,27 +1,11 @@
 -- Laws of what stands at each number of a range, and of the nodes to which edges lead from a node.
-use Rattle.std.proofs.Common.{◌≡◌, ℕ, zero, suc, ◌+◌, ◌-◌, ◌<◌, ◌≤◌, false, eqb, ◌⊎◌, List, [], ◌∷◌, ◌++◌, map, sym, refl, ap, ◌∙◌, inl, inr, add-one, arith}
-use Rattle.std.specs.List.{ContainsAt as Has, AllByRecursion as All}
-use Rattle.std.proofs.ByRecursion.{All-append, All-weaker, has_append_left, has_append_right}
+use Rattle.std.proofs.Common.{◌≡◌, ℕ, zero, suc, ◌+◌, ◌-◌, ◌<◌, ◌≤◌, false, eqb, ◌⊎◌, List, [], ◌∷◌, ◌++◌, sym, ap, ◌∙◌, inl, inr, add-one, arith, All, Contains}
+use Rattle.std.proofs.lemmas.List.Elements.{All-nil, All-cons, All-append, All-weaker, Contains-append_left, Contains-append_right}
 use Rattle.std.proofs.lemmas.Bool.{cases_lt, cond-true, cond-false, cond_both, eqb-true, eq-eqb}
 use Rattle.model.specs.declared.Edge.{Edge}
 use Rattle.model.specs.Program.{Leads}
 use Rattle.model.specs.Tables.{each_of, each_from, targets}
-
--- a list has its first element, what the rest has, and nothing else
-pub has_here : {A : Type 0} (x : A) (xs : List A) → Has (x ∷ xs) x
-has_here x xs = (0, omega arith, λ d. refl)
-
-pub has_later : {A : Type 0} (y : A) (xs : List A) (x : A) → Has xs x → Has (y ∷ xs) x
-has_later y xs x h = (suc h.0, omega (arith, h.1), h.2)
-
-pub has_cases : {A : Type 0} (y : A) (xs : List A) (x : A) → Has (y ∷ xs) x → (y ≡ x) ⊎ Has xs x
-has_cases y xs x (zero, lt, at) = inl (at y)
-has_cases y xs x (suc k, lt, at) = inr (k, omega arith, at)
-
-pub has_map : {A B : Type 0} (f : A → B) (xs : List A) (x : A) → Has xs x → Has (map f xs) (f x)
-has_map f [] x h = absurd (omega (arith, h.1))
-has_map f (y ∷ xs) x (zero, lt, at) = (0, omega arith, λ d. ap f (at y))
-has_map f (y ∷ xs) x (suc k, lt, at) = has_later (f y) (map f xs) (f x) (has_map f xs x (k, omega arith, at))
+use Rattle.model.proofs.Lists.{has_later, has_cases}
 
 module _ {A : Type 0} where
   -- a range that has a first number, and one that has none
@@ -50,24 +34,24 @@ module _ {A : Type 0} where
 
   all_by : (P : A → Type 0) (d i : ℕ) (f : ℕ → List A) → ((k : ℕ) → i ≤ k → k < i + d → All P (f k)) → All P (each_of d i f)
   unfolding each_of
-  all_by P zero i f each = tt
+  all_by P zero i f each = All-nil P
   all_by P (suc d) i f each = All-append P (f i) (each_of d (suc i) f) (each i (omega arith) (omega arith)) (all_by P d (suc i) f (λ k low high. each k (omega arith) (omega arith)))
 
   -- what holds of all that stands at each number holds of all that stands at the range
   pub all_each : (P : A → Type 0) (i n : ℕ) (f : ℕ → List A) → ((k : ℕ) → i ≤ k → k < n → All P (f k)) → All P (each_from i n f)
   all_each P i n f each = all_by P (n - i) i f (λ k low high. each k low (omega arith))
 
-  has_by : (d i k : ℕ) (f : ℕ → List A) (x : A) → i ≤ k → k < i + d → Has (f k) x → Has (each_of d i f) x
+  has_by : (d i k : ℕ) (f : ℕ → List A) (x : A) → i ≤ k → k < i + d → Contains (f k) x → Contains (each_of d i f) x
   unfolding each_of
   has_by zero i k f x low high h = absurd (omega arith)
   has_by (suc d) i k f x low high h = by (λ above. has_by d (suc i) k f x above (omega arith) h) (cases_lt i k)
     where
-      by : (i < k → Has (each_of d (suc i) f) x) → (i < k) ⊎ (k ≤ i) → Has (f i ++ each_of d (suc i) f) x
-      by later (inl above) = has_append_right (f i) (each_of d (suc i) f) x (later above)
-      by later (inr under) = let e : k ≡ i = omega arith in has_append_left (f i) (each_of d (suc i) f) x (rw e at h)
+      by : (i < k → Contains (each_of d (suc i) f) x) → (i < k) ⊎ (k ≤ i) → Contains (f i ++ each_of d (suc i) f) x
+      by later (inl above) = Contains-append_right (f i) (each_of d (suc i) f) x (later above)
+      by later (inr under) = let e : k ≡ i = omega arith in Contains-append_left (f i) (each_of d (suc i) f) x (rw e at h)
 
   -- what stands at a number of the range stands in it
-  pub has_each : (i n k : ℕ) (f : ℕ → List A) (x : A) → i ≤ k → k < n → Has (f k) x → Has (each_from i n f) x
+  pub has_each : (i n k : ℕ) (f : ℕ → List A) (x : A) → i ≤ k → k < n → Contains (f k) x → Contains (each_from i n f) x
   has_each i n k f x low high h = has_by (n - i) i k f x low (omega arith) h
 
 -- an edge from n leads to a target, and another edge does not
@@ -82,19 +66,19 @@ targets_no e es n other = cond-false (eqb e.from n) (e.to ∷ targets es n) (tar
 -- edges lead to the targets, and where an edge leads is a target
 pub all_targets : (es : List Edge) (n : ℕ) → All (Leads es n) (targets es n)
 unfolding targets
-all_targets [] n = tt
+all_targets [] n = All-nil (Leads [] n)
 all_targets (e ∷ es) n =
     let rest : All (Leads (e ∷ es) n) (targets es n) = All-weaker (Leads es n) (Leads (e ∷ es) n) (λ m h. has_later e es (record { from = n; to = m }) h) (targets es n) (all_targets es n) in
     cond_both (eqb e.from n) (e.to ∷ targets es n) (targets es n) (All (Leads (e ∷ es) n))
-    (λ h. let same : e.from ≡ n = eqb-true e.from n h in ((0, omega arith, λ d k. record { from = same k; to = e.to }), rest)) (λ h. rest)
+    (λ h. let same : e.from ≡ n = eqb-true e.from n h in All-cons (Leads (e ∷ es) n) e.to (targets es n) (0, omega arith, λ k. record { from = same k; to = e.to }) rest) (λ h. rest)
 
-pub has_targets : (es : List Edge) (n m : ℕ) → Leads es n m → Has (targets es n) m
+pub has_targets : (es : List Edge) (n m : ℕ) → Leads es n m → Contains (targets es n) m
 unfolding targets
 has_targets [] n m h = absurd (omega (arith, h.1))
 has_targets (e ∷ es) n m h = by (has_targets es n m) (has_cases e es (record { from = n; to = m }) h)
   where
-    by : (Leads es n m → Has (targets es n) m) → (e ≡ record { from = n; to = m }) ⊎ Leads es n m → Has (targets (e ∷ es) n) m
-    by later (inl same) = rw (targets_yes e es n (ap (λ (d : Edge). d.from) same)) (0, omega arith, λ d. ap (λ (d : Edge). d.to) same)
+    by : (Leads es n m → Contains (targets es n) m) → (e ≡ record { from = n; to = m }) ⊎ Leads es n m → Contains (targets (e ∷ es) n) m
+    by later (inl same) = rw (targets_yes e es n (ap (λ (d : Edge). d.from) same)) (0, omega arith, ap (λ (d : Edge). d.to) same)
     by later (inr h) =
         let rest = later h in
-        cond_both (eqb e.from n) (e.to ∷ targets es n) (targets es n) (λ ms. Has ms m) (λ yes. has_later e.to (targets es n) m rest) (λ no. rest)
+        cond_both (eqb e.from n) (e.to ∷ targets es n) (targets es n) (λ ms. Contains ms m) (λ yes. has_later e.to (targets es n) m rest) (λ no. rest)

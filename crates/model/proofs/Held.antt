@@ -1,7 +1,7 @@
 -- Laws of what a table holds, and of offering rows to it.
-use Rattle.std.proofs.Common.{◌≡◌, ℕ, zero, suc, ◌<◌, ◌≤◌, true, false, ◌&&◌, ◌||◌, eqb, ltb, ◌⊎◌, List, [], ◌∷◌, ◌++◌, length, sym, refl, ap, ◌∙◌, inl, inr, arith}
-use Rattle.std.specs.List.{AllByRecursion as All}
+use Rattle.std.proofs.Common.{◌≡◌, ℕ, zero, suc, ◌<◌, ◌≤◌, true, false, ◌&&◌, ◌||◌, eqb, ltb, ◌⊎◌, List, [], ◌∷◌, ◌++◌, length, sym, refl, ap, ◌∙◌, inl, inr, arith, All}
 use Rattle.std.proofs.lemmas.List.{append-nil, append_assoc}
+use Rattle.std.proofs.lemmas.List.Elements.{All-nil, All-cons, All-head, All-tail}
 use Rattle.std.proofs.lemmas.Bool.{false≢true, both_ways, eqb-true, eq-eqb, lt-ltb, le-ltb, ltb-true, ltb-false, and_parts, and_from, or_cases, or_left, or_right, or_from, cond-true, cond-false, cases_Bool}
 use Rattle.model.specs.declared.Fact.{Fact}
 use Rattle.model.specs.declared.Point.{Point}
@@ -128,7 +128,7 @@ module _ (places : ℕ) where
   pub offers_keep : (P : Search → Type 0) (Q : Fact → Type 0) → ((s : Search) (f : Fact) → Q f → P s → P (offer places s f)) → (s : Search) (fs : List Fact) → All Q fs → P s → P (offer_all places s fs)
   unfolding offer_all
   offers_keep P Q keeps s [] each h = h
-  offers_keep P Q keeps s (f ∷ fs) each h = offers_keep P Q keeps (offer places s f) fs each.1 (keeps s f each.0 h)
+  offers_keep P Q keeps s (f ∷ fs) each h = offers_keep P Q keeps (offer places s f) fs (All-tail Q f fs each) (keeps s f (All-head Q f fs each) h)
 
   -- offering works no row
   pub offer_worked : (s : Search) (f : Fact) → (offer places s f).worked ≡ s.worked
@@ -177,6 +177,7 @@ module _ (places : ℕ) where
 
   pub offers_hold : (s : Search) (fs : List Fact) → (offer_all places s fs).full ≡ false → All (λ f. is_held (offer_all places s fs).rows f ≡ true) fs
   unfolding offer_all
-  offers_hold s [] free = tt
+  offers_hold s [] free = All-nil (λ f. is_held (offer_all places s []).rows f ≡ true)
   offers_hold s (f ∷ fs) free =
-      (offers_stay (offer places s f) fs f (offer_holds s f (offers_free (offer places s f) fs free)), offers_hold (offer places s f) fs free)
+      All-cons (λ g. is_held (offer_all places (offer places s f) fs).rows g ≡ true) f fs
+      (offers_stay (offer places s f) fs f (offer_holds s f (offers_free (offer places s f) fs free))) (offers_hold (offer places s f) fs free)

@@ -6,6 +6,7 @@ pub mod Grounded
 pub mod Held
 pub mod Linking
 pub mod Links
+pub mod Lists
 pub mod Nexts
 pub mod Offered
 pub mod Pigeons

@@ -32,7 +32,7 @@ module _ (X : Setting) (es : List Edge) (more : Among X.edges es) where
       let f = fact_in fs i in
       let h = told.exact through f.0 f.1 (more_yields X es more (differ.yielded i lt)) in
       let n = length-map t.rows fact_of in
-      (h.0, omega (arith, h.1.0), λ d. get_or-map fact_of t.rows h.0 no_fact d h.1.0 ∙ ap₂ (λ (p q : Point). (p, q)) h.1.1 h.1.2)
+      (h.0, omega (arith, h.1.0), get_or-map fact_of t.rows h.0 no_fact f h.1.0 ∙ ap₂ (λ (p q : Point). (p, q)) h.1.1 h.1.2)
 
 -- what no rows give, the entries of main, is held
 none_worked : (X : Setting) (es : List Edge) (places : ℕ) (s : Search) → Sound X places s → s.full ≡ false → {f : Fact} → DerivedFrom (with_edges X es) [] f → is_held s.rows f ≡ true

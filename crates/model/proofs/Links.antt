@@ -1,7 +1,6 @@
 -- Laws of links: a new edge at its rising place counts beside those that did, and with more edges there are more runs and more facts.
-use Rattle.std.proofs.Common.{◌≡◌, ℕ, suc, ◌+◌, ◌≤◌, true, false, ◌&&◌, eqb, ◌⊎◌, List, [], ◌∷◌, ◌++◌, cond, length, take, drop, Some, None, Option, sym, refl, ap, ◌∙◌, subst, inl, inr, arith}
-use Rattle.std.specs.List.{ContainsAt as Has}
-use Rattle.std.proofs.ByRecursion.{has_append_left, has_append_right, has_append_cases}
+use Rattle.std.proofs.Common.{◌≡◌, ℕ, suc, ◌+◌, ◌≤◌, true, false, ◌&&◌, eqb, ◌⊎◌, List, [], ◌∷◌, ◌++◌, cond, length, take, drop, Some, None, Option, sym, refl, ap, ◌∙◌, subst, inl, inr, arith, Contains}
+use Rattle.std.proofs.lemmas.List.Elements.{Contains-append_left, Contains-append_right, Contains-append_cases}
 use Rattle.std.proofs.lemmas.List.{length-append, take-append-drop}
 use Rattle.std.proofs.lemmas.Bool.{and_from, and_parts, or_parts, cond-true, cond-false, cases_Bool}
 use Rattle.std.proofs.lemmas.Bool.Decides.{nat_tests}
@@ -13,7 +12,7 @@ use Rattle.model.specs.Facts.{enter as derive_enter, back as derive_back}
 use Rattle.model.specs.Links.{is_listed, place_after, linked, Among, with_edges, LinkLaws}
 use Rattle.model.specs.Program.{Program, is_edge, rises, rises_after, counts, counted_after, counted}
 use Rattle.model.specs.Runs.{start, pass, enter, back}
-use Rattle.model.proofs.Each.{has_here, has_later, has_cases}
+use Rattle.model.proofs.Lists.{has_here, has_later, has_cases}
 use Rattle.model.proofs.Edges.{counted_yes, counted_no, counted_both}
 
 -- of two edges that are not the same one rises above the other
@@ -109,27 +108,27 @@ linked_all p es e right new all =
     counted_whole p None (linked p es e) (more ∙ ap (λ ds. length ds + 1) all ∙ sym (linked_length p es e))
 
 -- edges with e put in have e
-put_has : {e : Edge} {es fs : List Edge} → PutIn e es fs → Has fs e
-put_has {e = e} h = rw h.3 (has_append_right h.0 (e ∷ h.1) e (has_here e h.1))
+put_has : {e : Edge} {es fs : List Edge} → PutIn e es fs → Contains fs e
+put_has {e = e} h = rw h.3 (Contains-append_right h.0 (e ∷ h.1) e (has_here e h.1))
 
 -- they have what the others have
 put_old : {e : Edge} {es fs : List Edge} → PutIn e es fs → Among es fs
-put_old {e = e} {es = es} {fs = fs} h d had = by (has_append_cases h.0 h.1 d (subst (λ cs. Has cs d) h.2 had))
+put_old {e = e} {es = es} {fs = fs} h d had = by (Contains-append_cases h.0 h.1 d (subst (λ cs. Contains cs d) h.2 had))
   where
-    by : Has h.0 d ⊎ Has h.1 d → Has fs d
-    by (inl before) = rw h.3 (has_append_left h.0 (e ∷ h.1) d before)
-    by (inr after) = rw h.3 (has_append_right h.0 (e ∷ h.1) d (has_later e h.1 d after))
+    by : Contains h.0 d ⊎ Contains h.1 d → Contains fs d
+    by (inl before) = rw h.3 (Contains-append_left h.0 (e ∷ h.1) d before)
+    by (inr after) = rw h.3 (Contains-append_right h.0 (e ∷ h.1) d (has_later e h.1 d after))
 
 -- and they have nothing else
-put_only : {e : Edge} {es fs : List Edge} → PutIn e es fs → (d : Edge) → Has fs d → Has es d ⊎ (d ≡ e)
-put_only {e = e} {es = es} {fs = fs} h d has = by (has_append_cases h.0 (e ∷ h.1) d (subst (λ cs. Has cs d) h.3 has))
+put_only : {e : Edge} {es fs : List Edge} → PutIn e es fs → (d : Edge) → Contains fs d → Contains es d ⊎ (d ≡ e)
+put_only {e = e} {es = es} {fs = fs} h d has = by (Contains-append_cases h.0 (e ∷ h.1) d (subst (λ cs. Contains cs d) h.3 has))
   where
-    later : (e ≡ d) ⊎ Has h.1 d → Has es d ⊎ (d ≡ e)
+    later : (e ≡ d) ⊎ Contains h.1 d → Contains es d ⊎ (d ≡ e)
     later (inl same) = inr (sym same)
-    later (inr after) = inl (rw h.2 (has_append_right h.0 h.1 d after))
+    later (inr after) = inl (rw h.2 (Contains-append_right h.0 h.1 d after))
 
-    by : Has h.0 d ⊎ Has (e ∷ h.1) d → Has es d ⊎ (d ≡ e)
-    by (inl before) = inl (rw h.2 (has_append_left h.0 h.1 d before))
+    by : Contains h.0 d ⊎ Contains (e ∷ h.1) d → Contains es d ⊎ (d ≡ e)
+    by (inl before) = inl (rw h.2 (Contains-append_left h.0 h.1 d before))
     by (inr behind) = later (has_cases e h.1 d behind)
 
 module _ (X : Setting) (es : List Edge) (more : Among X.edges es) where

@@ -1,7 +1,6 @@
 -- What working a row offers is given by the rows up to it; and what these rows give, and the rows before it did not, is offered.
-use Rattle.std.proofs.Common.{◌≡◌, ℕ, ◌+◌, ◌<◌, true, ◌&&◌, eqb, ltb, ◌⊎◌, List, [], ◌∷◌, length, sym, refl, ap, ◌∙◌, subst, inl, inr, arith}
-use Rattle.std.specs.List.{ContainsAt as Has, AllByRecursion as All}
-use Rattle.std.proofs.ByRecursion.{All-append, All-map, All-weaker, has_append_left, has_append_right}
+use Rattle.std.proofs.Common.{◌≡◌, ℕ, ◌+◌, ◌<◌, true, ◌&&◌, eqb, ltb, ◌⊎◌, List, [], ◌∷◌, length, sym, refl, ap, ◌∙◌, subst, inl, inr, arith, All, Contains}
+use Rattle.std.proofs.lemmas.List.Elements.{All-nil, All-append, All-map, All-weaker, Contains-append_left, Contains-append_right}
 use Rattle.std.proofs.lemmas.Bool.{false≢true, ltb-true, and_parts, cond-true, cond_both, cases_order}
 use Rattle.model.specs.declared.Fact.{Fact}
 use Rattle.model.specs.declared.Kind.{Kind}
@@ -11,8 +10,9 @@ use Rattle.model.specs.Facts.{Setting, kind_at, enter_point}
 use Rattle.model.specs.Program.{Program, node_at, home, is_return, is_entry_of, Leads}
 use Rattle.model.specs.Runs.{goes_on, returns_at}
 use Rattle.model.specs.Tables.{start_of, end_of, row_at, first_row, follow_row, enter_row, back_row, same_point, gives, joins, targets, node_count, first_at, firsts, follows, enter_at, enters, backs, return_at, call_at, offers_by, offers}
-use Rattle.model.proofs.Each.{has_here, has_map, all_each, has_each, all_targets, has_targets}
+use Rattle.model.proofs.Each.{all_each, has_each, all_targets, has_targets}
 use Rattle.model.proofs.Grounded.{Given, first, follow, enter, back}
+use Rattle.model.proofs.Lists.{All-one, has_here, has_map}
 
 -- an entry of a method is a node
 entry_node : (p : Program) (k n : ℕ) → is_entry_of p k n ≡ true → n < length p.nodes
@@ -41,9 +41,9 @@ module _ (X : Setting) where
   pub firsts_given : All (Given X [] 0) (firsts X)
   firsts_given =
       all_each (Given X [] 0) 0 (node_count X) (first_at X) (λ n low high.
-      cond_both (is_entry_of X.program 0 n) (first_row X n ∷ []) [] (All (Given X [] 0)) (λ h. (first n h, tt)) (λ h. tt))
+      cond_both (is_entry_of X.program 0 n) (first_row X n ∷ []) [] (All (Given X [] 0)) (λ h. All-one (Given X [] 0) (first_row X n) (first n h)) (λ h. All-nil (Given X [] 0)))
 
-  pub has_firsts : (n : ℕ) → is_entry_of X.program 0 n ≡ true → Has (firsts X) (first_row X n)
+  pub has_firsts : (n : ℕ) → is_entry_of X.program 0 n ≡ true → Contains (firsts X) (first_row X n)
   has_firsts n h =
       has_each 0 (node_count X) n (first_at X) (first_row X n) (omega arith) (entry_node X.program 0 n h)
       (rw (cond-true (is_entry_of X.program 0 n) (first_row X n ∷ []) [] h) (has_here (first_row X n) []))
@@ -65,17 +65,17 @@ module _ (X : Setting) where
         All-append (Given X rows (i + 1)) (enters X callee i (row_at rows i)) _
         (all_each (Given X rows (i + 1)) 0 (node_count X) (enter_at X callee i (row_at rows i)) (λ m low high.
         cond_both (is_entry_of X.program callee m) (enter_row X i (row_at rows i) m ∷ []) [] (All (Given X rows (i + 1)))
-        (λ h. (enter i m (omega arith) (ap (λ k. call_enters X.program k m) e ∙ h), tt)) (λ h. tt)))
+        (λ h. All-one (Given X rows (i + 1)) (enter_row X i (row_at rows i) m) (enter i m (omega arith) (ap (λ k. call_enters X.program k m) e ∙ h))) (λ h. All-nil (Given X rows (i + 1)))))
         (all_each (Given X rows (i + 1)) 0 i (return_at X rows i (row_at rows i)) (λ j low high.
         cond_both (joins X (row_at rows i) (row_at rows j)) (backs X i (row_at rows i) j (row_at rows j)) [] (All (Given X rows (i + 1)))
-        (λ h. backs_given i j (omega arith) (omega arith) h) (λ h. tt)))
+        (λ h. backs_given i j (omega arith) (omega arith) h) (λ h. All-nil (Given X rows (i + 1)))))
     by_kind (Check required) e =
         cond_both (X.rule.pass (row_at rows i).value (row_at rows i).node) (follows X i (row_at rows i)) [] (All (Given X rows (i + 1)))
-        (λ h. follows_given (ap (λ k. goes_on X.rule k (row_at rows i).node (row_at rows i).value) e ∙ h)) (λ h. tt)
+        (λ h. follows_given (ap (λ k. goes_on X.rule k (row_at rows i).node (row_at rows i).value) e ∙ h)) (λ h. All-nil (Given X rows (i + 1)))
     by_kind Return e =
         all_each (Given X rows (i + 1)) 0 i (call_at X rows i (row_at rows i)) (λ j low high.
         cond_both (joins X (row_at rows j) (row_at rows i)) (backs X j (row_at rows j) i (row_at rows i)) [] (All (Given X rows (i + 1)))
-        (λ h. backs_given j i (omega arith) (omega arith) h) (λ h. tt))
+        (λ h. backs_given j i (omega arith) (omega arith) h) (λ h. All-nil (Given X rows (i + 1))))
 
     -- each row that is offered is given
     pub offers_given : All (Given X rows (i + 1)) (offers X rows i)
@@ -83,34 +83,34 @@ module _ (X : Setting) where
     offers_given = by_kind (kind_at X (end_of (row_at rows i))) refl
 
     -- each of these is offered, by what the node does
-    follow_by : (c : Fact) (m : ℕ) (k : Kind) → goes_on X.rule k c.node c.value ≡ true → Leads X.edges c.node m → Has (offers_by X rows i c k) (follow_row X i c m)
+    follow_by : (c : Fact) (m : ℕ) (k : Kind) → goes_on X.rule k c.node c.value ≡ true → Leads X.edges c.node m → Contains (offers_by X rows i c k) (follow_row X i c m)
     follow_by c m Nop g l = has_map (follow_row X i c) (targets X.edges c.node) m (has_targets X.edges c.node m l)
     follow_by c m (Call callee grant accept privileged) g l = absurd (false≢true g)
     follow_by c m (Check required) g l =
         rw (cond-true (X.rule.pass c.value c.node) (follows X i c) [] g) (has_map (follow_row X i c) (targets X.edges c.node) m (has_targets X.edges c.node m l))
     follow_by c m Return g l = absurd (false≢true g)
 
-    enter_by : (c : Fact) (m : ℕ) (k : Kind) → call_enters X.program k m ≡ true → Has (offers_by X rows i c k) (enter_row X i c m)
+    enter_by : (c : Fact) (m : ℕ) (k : Kind) → call_enters X.program k m ≡ true → Contains (offers_by X rows i c k) (enter_row X i c m)
     enter_by c m Nop g = absurd (false≢true g)
     enter_by c m (Call callee grant accept privileged) g =
-        has_append_left (enters X callee i c) _ (enter_row X i c m)
+        Contains-append_left (enters X callee i c) _ (enter_row X i c m)
         (has_each 0 (node_count X) m (enter_at X callee i c) (enter_row X i c m) (omega arith) (entry_node X.program callee m g)
         (rw (cond-true (is_entry_of X.program callee m) (enter_row X i c m ∷ []) [] g) (has_here (enter_row X i c m) [])))
     enter_by c m (Check required) g = absurd (false≢true g)
     enter_by c m Return g = absurd (false≢true g)
 
     -- a call, worked after the return fact
-    call_by : (c : Fact) (j m e : ℕ) (k : Kind) → call_enters X.program k e ≡ true → j < i → joins X c (row_at rows j) ≡ true → Leads X.edges c.node m → Has (offers_by X rows i c k) (back_row X i c j (row_at rows j) m)
+    call_by : (c : Fact) (j m e : ℕ) (k : Kind) → call_enters X.program k e ≡ true → j < i → joins X c (row_at rows j) ≡ true → Leads X.edges c.node m → Contains (offers_by X rows i c k) (back_row X i c j (row_at rows j) m)
     call_by c j m e Nop g lt h l = absurd (false≢true g)
     call_by c j m e (Call callee grant accept privileged) g lt h l =
-        has_append_right (enters X callee i c) _ (back_row X i c j (row_at rows j) m)
+        Contains-append_right (enters X callee i c) _ (back_row X i c j (row_at rows j) m)
         (has_each 0 i j (return_at X rows i c) (back_row X i c j (row_at rows j) m) (omega arith) lt
         (rw (cond-true (joins X c (row_at rows j)) (backs X i c j (row_at rows j)) [] h) (has_map (back_row X i c j (row_at rows j)) (targets X.edges c.node) m (has_targets X.edges c.node m l))))
     call_by c j m e (Check required) g lt h l = absurd (false≢true g)
     call_by c j m e Return g lt h l = absurd (false≢true g)
 
     -- a return, worked after the call fact
-    return_by : (x : Fact) (j m : ℕ) (k : Kind) → is_return k ≡ true → j < i → joins X (row_at rows j) x ≡ true → Leads X.edges (row_at rows j).node m → Has (offers_by X rows i x k) (back_row X j (row_at rows j) i x m)
+    return_by : (x : Fact) (j m : ℕ) (k : Kind) → is_return k ≡ true → j < i → joins X (row_at rows j) x ≡ true → Leads X.edges (row_at rows j).node m → Contains (offers_by X rows i x k) (back_row X j (row_at rows j) i x m)
     return_by x j m Nop r lt h l = absurd (false≢true r)
     return_by x j m (Call callee grant accept privileged) r lt h l = absurd (false≢true r)
     return_by x j m (Check required) r lt h l = absurd (false≢true r)
@@ -120,12 +120,12 @@ module _ (X : Setting) where
 
     -- what is given by the rows up to this one is given by those before it, or offered
     abbrev Found : Fact → Type 0
-    Found f = Given X rows i f ⊎ Has (offers X rows i) f
+    Found f = Given X rows i f ⊎ Contains (offers X rows i) f
 
     follow_found : (k m : ℕ) → k < i + 1 → goes_on X.rule (kind_at X (end_of (row_at rows k))) (row_at rows k).node (row_at rows k).value ≡ true → Leads X.edges (row_at rows k).node m → (k ≡ i) ⊎ ((k < i) ⊎ (i < k)) → Found (follow_row X k (row_at rows k) m)
     unfolding offers
     follow_found k m lt g l (inl e) =
-        inr (subst (λ k. goes_on X.rule (kind_at X (end_of (row_at rows k))) (row_at rows k).node (row_at rows k).value ≡ true → Leads X.edges (row_at rows k).node m → Has (offers X rows i) (follow_row X k (row_at rows k) m)) (sym e)
+        inr (subst (λ k. goes_on X.rule (kind_at X (end_of (row_at rows k))) (row_at rows k).node (row_at rows k).value ≡ true → Leads X.edges (row_at rows k).node m → Contains (offers X rows i) (follow_row X k (row_at rows k) m)) (sym e)
         (follow_by (row_at rows i) m (kind_at X (end_of (row_at rows i)))) g l)
     follow_found k m lt g l (inr (inl below)) = inl (follow k m below g l)
     follow_found k m lt g l (inr (inr above)) = absurd (omega arith)
@@ -133,7 +133,7 @@ module _ (X : Setting) where
     enter_found : (k m : ℕ) → k < i + 1 → call_enters X.program (kind_at X (end_of (row_at rows k))) m ≡ true → (k ≡ i) ⊎ ((k < i) ⊎ (i < k)) → Found (enter_row X k (row_at rows k) m)
     unfolding offers
     enter_found k m lt g (inl e) =
-        inr (subst (λ k. call_enters X.program (kind_at X (end_of (row_at rows k))) m ≡ true → Has (offers X rows i) (enter_row X k (row_at rows k) m)) (sym e)
+        inr (subst (λ k. call_enters X.program (kind_at X (end_of (row_at rows k))) m ≡ true → Contains (offers X rows i) (enter_row X k (row_at rows k) m)) (sym e)
         (enter_by (row_at rows i) m (kind_at X (end_of (row_at rows i)))) g)
     enter_found k m lt g (inr (inl below)) = inl (enter k m below g)
     enter_found k m lt g (inr (inr above)) = absurd (omega arith)
@@ -146,16 +146,16 @@ module _ (X : Setting) where
     back_found c x m a b h l (inr (inl below)) (inr (inr above)) = absurd (omega arith)
     back_found c x m a b h l (inr (inl below)) (inr (inl under)) = inl (back c x m below under h l)
     back_found c x m a b h l (inl e) (inr (inl under)) =
-        inr (subst (λ c. joins X (row_at rows c) (row_at rows x) ≡ true → Leads X.edges (row_at rows c).node m → Has (offers X rows i) (back_row X c (row_at rows c) x (row_at rows x) m)) (sym e)
+        inr (subst (λ c. joins X (row_at rows c) (row_at rows x) ≡ true → Leads X.edges (row_at rows c).node m → Contains (offers X rows i) (back_row X c (row_at rows c) x (row_at rows x) m)) (sym e)
         (λ h l. call_by (row_at rows i) x m (row_at rows x).entry (kind_at X (end_of (row_at rows i))) (joins_parts (row_at rows i) (row_at rows x) h).1 under h l) h l)
     back_found c x m a b h l (inr (inl below)) (inl e) =
-        inr (subst (λ x. joins X (row_at rows c) (row_at rows x) ≡ true → Has (offers X rows i) (back_row X c (row_at rows c) x (row_at rows x) m)) (sym e)
+        inr (subst (λ x. joins X (row_at rows c) (row_at rows x) ≡ true → Contains (offers X rows i) (back_row X c (row_at rows c) x (row_at rows x) m)) (sym e)
         (λ h. return_by (row_at rows i) c m (kind_at X (end_of (row_at rows i))) (joins_returns (row_at rows c) (row_at rows i) h) below h l) h)
     back_found c x m a b h l (inl e) (inl d) =
         let r = subst (λ x. is_return (kind_at X (end_of (row_at rows x))) ≡ true) (d ∙ sym e) (joins_returns (row_at rows c) (row_at rows x) h) in
         absurd (enters_returns X.program (kind_at X (end_of (row_at rows c))) (row_at rows x).entry (joins_parts (row_at rows c) (row_at rows x) h).1 r)
 
-    pub given_offered : {f : Fact} → Given X rows (i + 1) f → Given X rows i f ⊎ Has (offers X rows i) f
+    pub given_offered : {f : Fact} → Given X rows (i + 1) f → Given X rows i f ⊎ Contains (offers X rows i) f
     given_offered (first n h) = inl (first n h)
     given_offered (follow k m lt g l) = follow_found k m lt g l (cases_order k i)
     given_offered (enter k m lt g) = enter_found k m lt g (cases_order k i)

@@ -1,11 +1,9 @@
 -- Lists of different elements, each of which another list has: no longer than that list, and if no shorter, the same elements in some order.
-use Rattle.std.proofs.Common.{◌≡◌, ◌≢◌, ℕ, suc, ◌<◌, ◌≤◌, ◌⊎◌, List, [], ◌∷◌, length, get_or, remove, sym, inl, inr, arith, IsPermutation}
-use Rattle.std.specs.List.{ContainsAt as Has}
-use Rattle.std.proofs.ByRecursion.{has_shuffled}
+use Rattle.std.proofs.Common.{◌≡◌, ◌≢◌, ℕ, suc, ◌<◌, ◌≤◌, ◌⊎◌, List, [], ◌∷◌, length, get_or, remove, sym, inl, inr, arith, IsPermutation, Contains}
 use Rattle.std.proofs.lemmas.List.{nil_from_length}
-use Rattle.std.proofs.lemmas.List.Sorted.{IsPermutation-refl, IsPermutation-sym, IsPermutation-trans, IsPermutation-cons, IsPermutation-remove, length_permutation}
+use Rattle.std.proofs.lemmas.List.Sorted.{IsPermutation-refl, IsPermutation-sym, IsPermutation-trans, IsPermutation-cons, IsPermutation-remove, length_permutation, Contains-permutation}
 use Rattle.std.proofs.lemmas.Bool.{cases_lt}
-use Rattle.model.proofs.Each.{has_cases}
+use Rattle.model.proofs.Lists.{has_cases}
 
 -- no two places of a list have one element
 abbrev pub Apart : {X : Type 0} → X → List X → Type 0
@@ -13,14 +11,14 @@ Apart d xs = (i j : ℕ) → i < j → j < length xs → get_or xs i d ≢ get_o
 
 -- each element of a list is one of another
 abbrev pub Within : {X : Type 0} → X → List X → List X → Type 0
-Within d xs ys = (i : ℕ) → i < length xs → Has ys (get_or xs i d)
+Within d xs ys = (i : ℕ) → i < length xs → Contains ys (get_or xs i d)
 
 module _ {X : Type 0} (d : X) where
   -- without its first element, which stands at place k of the other list, a list lies within the rest of that one
   within_rest : (x : X) (xs ys : List X) (k : ℕ) → Apart d (x ∷ xs) → Within d (x ∷ xs) ys → IsPermutation ys (x ∷ remove ys k) → Within d xs (remove ys k)
-  within_rest x xs ys k apart within out i lt = by (has_cases x (remove ys k) (get_or xs i d) (has_shuffled ys (x ∷ remove ys k) (get_or xs i d) out (within (suc i) (omega arith))))
+  within_rest x xs ys k apart within out i lt = by (has_cases x (remove ys k) (get_or xs i d) (Contains-permutation ys (x ∷ remove ys k) (get_or xs i d) out (within (suc i) (omega arith))))
     where
-      by : (x ≡ get_or xs i d) ⊎ Has (remove ys k) (get_or xs i d) → Has (remove ys k) (get_or xs i d)
+      by : (x ≡ get_or xs i d) ⊎ Contains (remove ys k) (get_or xs i d) → Contains (remove ys k) (get_or xs i d)
       by (inl same) = absurd (apart 0 (suc i) (omega arith) (omega arith) same)
       by (inr rest) = rest
 
@@ -30,7 +28,7 @@ module _ {X : Type 0} (d : X) where
   pigeons (x ∷ xs) ys apart within few =
       let p = within 0 (omega arith) in
       let rest = remove ys p.0 in
-      let out = IsPermutation-remove ys p.0 x p.1 (sym (p.2 x)) in
+      let out = IsPermutation-remove ys p.0 x p.1 (sym p.2) in
       let n = length_permutation ys (x ∷ rest) out in
       let same = pigeons xs rest (λ i j lt far. apart (suc i) (suc j) (omega arith) (omega arith)) (within_rest x xs ys p.0 apart within out) (omega arith) in
       IsPermutation-trans (x ∷ xs) (x ∷ rest) ys (IsPermutation-cons x xs rest same) (IsPermutation-sym ys (x ∷ rest) out)

@@ -1,8 +1,7 @@
 -- An opening is sound, and working facts keeps a search sound.
-use Rattle.std.proofs.Common.{◌≡◌, ℕ, zero, suc, ◌+◌, ◌<◌, ◌≤◌, true, false, not, ltb, ◌⊎◌, List, [], ◌∷◌, ◌++◌, length, sym, refl, ap, ◌∙◌, subst, inl, inr, arith}
-use Rattle.std.specs.List.{ContainsAt as Has, AllByRecursion as All}
+use Rattle.std.proofs.Common.{◌≡◌, ℕ, zero, suc, ◌+◌, ◌<◌, ◌≤◌, true, false, not, ltb, ◌⊎◌, List, [], ◌∷◌, ◌++◌, length, sym, refl, ap, ◌∙◌, subst, inl, inr, arith, All, Contains}
 use Rattle.std.proofs.lemmas.List.{append-nil, append_assoc, length-append, length_push}
-use Rattle.std.proofs.ByRecursion.{all-has, All-weaker}
+use Rattle.std.proofs.lemmas.List.Elements.{All-contains, All-weaker}
 use Rattle.std.proofs.lemmas.Bool.{false≢true, both_ways, ltb-true, and_parts, cond_both}
 use Rattle.model.specs.declared.Fact.{Fact}
 use Rattle.model.specs.Facts.{Setting}
@@ -68,7 +67,7 @@ module _ (X : Setting) (places : ℕ) where
   }
 
   first_held : (s : Search) {f : Fact} → All (λ f. is_held s.rows f ≡ true) (firsts X) → Given X s.rows 0 f → is_held s.rows f ≡ true
-  first_held s each (first n h) = all-has (λ f. is_held s.rows f ≡ true) (firsts X) _ each (has_firsts X n h)
+  first_held s each (first n h) = All-contains (λ f. is_held s.rows f ≡ true) (firsts X) _ each (has_firsts X n h)
   first_held s each (follow i m lt g l) = absurd (omega arith)
   first_held s each (enter i m lt g) = absurd (omega arith)
   first_held s each (back i j m lt below g l) = absurd (omega arith)
@@ -88,12 +87,12 @@ module _ (X : Setting) (places : ℕ) where
       let m = offers_more places s (offers X s.rows s.worked) in
       by (given_offered X s.rows s.worked (given_front X s.rows m.0 (s.worked + 1) f (omega arith) (subst (λ rs. Given X rs (s.worked + 1) f) m.1 g)))
     where
-      by : Given X s.rows s.worked f ⊎ Has (offers X s.rows s.worked) f → is_held (offer_all places s (offers X s.rows s.worked)).rows f ≡ true
+      by : Given X s.rows s.worked f ⊎ Contains (offers X s.rows s.worked) f → is_held (offer_all places s (offers X s.rows s.worked)).rows f ≡ true
       by (inl before) =
           offers_stay places s (offers X s.rows s.worked) f
           (h.closed (offers_free places s (offers X s.rows s.worked) free) f (derived_from X s.rows s.worked f h.some before))
       by (inr offered) =
-          all-has (λ r. is_held (offer_all places s (offers X s.rows s.worked)).rows r ≡ true) (offers X s.rows s.worked) f (offers_hold places s (offers X s.rows s.worked) free) offered
+          All-contains (λ r. is_held (offer_all places s (offers X s.rows s.worked)).rows r ≡ true) (offers X s.rows s.worked) f (offers_hold places s (offers X s.rows s.worked) free) offered
 
   -- a fact is worked: what its row gives is held, or the table turned full
   work_sound : (s : Search) → Sound X places s → s.worked < length s.rows → Sound X places (work X places s)

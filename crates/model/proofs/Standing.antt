@@ -1,6 +1,6 @@
 -- What holds of the frames of every run: each frame below another is at a call, of the method that the one above is in; and where the rule answers with values below its count, each frame's value is below it. So a run asks its rule only as it should.
-use Rattle.std.proofs.Common.{◌≡◌, ℕ, ◌<◌, ◌≤◌, true, ◌&&◌, eqb, ltb, ◌⊎◌, List, [], ◌∷◌, length, sym, refl, ap, subst, inl, inr, arith}
-use Rattle.std.proofs.lemmas.List.{get_or_past}
+use Rattle.std.proofs.Common.{◌≡◌, ℕ, ◌<◌, ◌≤◌, true, ◌&&◌, eqb, ltb, ◌⊎◌, List, [], ◌∷◌, length, sym, refl, ap, ◌∙◌, subst, inl, inr, arith}
+use Rattle.std.proofs.lemmas.List.{get_or_default, get_or_past}
 use Rattle.std.specs.List.{AllByRecursion as All}
 use Rattle.std.proofs.lemmas.Bool.{cases_lt, false≢true, and_parts, and_from, eqb-true, eq-eqb}
 use Rattle.model.specs.declared.Edge.{Edge}
@@ -15,7 +15,7 @@ use Rattle.model.specs.Watches.{Watch}
 
 -- the edges of a lawful program obey the rules
 pub edges_obey : (p : Program) (es : List Edge) → Lawful p es → EdgesObey p es
-edges_obey p es law e h = subst (EdgeRules p) (h.2 no_edge) (law.edge h.0 h.1)
+edges_obey p es law e h = subst (EdgeRules p) (get_or_default es h.0 no_edge e h.1 ∙ h.2) (law.edge h.0 h.1)
 
 -- no method's rights reach 65,536; past the last method there are none
 pub rights_small : (p : Program) (es : List Edge) → Lawful p es → (k : ℕ) → (method_at p k).rights < 65536

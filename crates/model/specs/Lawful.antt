@@ -1,6 +1,5 @@
 -- The rules of a recipe, in its own words: which programs and edges a recipe may have.
-use Rattle.std.specs.Prelude.{◌≡◌, ℕ, suc, ◌<◌, ◌≤◌, true, ◌⊎◌, List, length, slice_index, slice_index_or}
-use Rattle.std.specs.List.{ContainsAt as Has}
+use Rattle.std.specs.Prelude.{◌≡◌, ℕ, suc, ◌<◌, ◌≤◌, true, ◌⊎◌, List, length, slice_index, slice_index_or, Contains}
 use Rattle.model.specs.declared.Edge.{Edge}
 use Rattle.model.specs.declared.Kind.{Kind}
 use Rattle.model.specs.declared.Kind.TheVariants.{Nop, Call, Check, Return}
@@ -50,4 +49,4 @@ pub record Lawful (p : Program) (es : List Edge) : Type 0 where
 
 -- each edge of a list is one by the rules, in whatever order they are: a recipe's edges with links added are such a list
 abbrev pub EdgesObey : Program → List Edge → Type 0
-EdgesObey p es = (e : Edge) → Has es e → EdgeRules p e
+EdgesObey p es = (e : Edge) → Contains es e → EdgeRules p e

@@ -1,6 +1,6 @@
 -- Links: where a new edge goes in a table of edges, and what more edges change.
-use Rattle.std.specs.Prelude.{◌≡◌, ℕ, suc, ◌+◌, true, false, Bool, cond, ◌&&◌, ◌⊎◌, List, [], ◌∷◌, ◌++◌, length, take, drop, Some, None, Option, ◌==◌}
-use Rattle.std.specs.List.{list_any, ContainsAt as Has}
+use Rattle.std.specs.Prelude.{◌≡◌, ℕ, suc, ◌+◌, true, false, Bool, cond, ◌&&◌, ◌⊎◌, List, [], ◌∷◌, ◌++◌, length, take, drop, Some, None, Option, ◌==◌, Contains}
+use Rattle.std.specs.List.{list_any}
 use Rattle.model.specs.declared.Edge.{Edge}
 use Rattle.model.specs.declared.Frame.{Frame}
 use Rattle.model.specs.declared.Point.{Point}
@@ -25,7 +25,7 @@ linked p es e = take (rising_place p es e) es ++ e ∷ drop (rising_place p es e
 
 -- each edge of one list is one of another
 abbrev pub Among : List Edge → List Edge → Type 0
-Among es fs = (e : Edge) → Has es e → Has fs e
+Among es fs = (e : Edge) → Contains es e → Contains fs e
 
 -- a setting, with these edges
 abbrev pub with_edges : Setting → List Edge → Setting
@@ -34,9 +34,9 @@ with_edges X es = record { program = X.program; edges = es; rule = X.rule; watch
 -- of edges with a new one, which is one by the rules and did not count, those count that did, and the new one; and with more edges there are more runs and more facts
 pub record LinkLaws : Type 0 where
   pub longer : (p : Program) (es : List Edge) (e : Edge) → length (linked p es e) ≡ length es + 1
-  pub counts_new : (p : Program) (es : List Edge) (e : Edge) → is_edge p e ≡ true → is_listed (counted p es) e ≡ false → Has (counted p (linked p es e)) e
+  pub counts_new : (p : Program) (es : List Edge) (e : Edge) → is_edge p e ≡ true → is_listed (counted p es) e ≡ false → Contains (counted p (linked p es e)) e
   pub counts_old : (p : Program) (es : List Edge) (e : Edge) → is_edge p e ≡ true → is_listed (counted p es) e ≡ false → Among (counted p es) (counted p (linked p es e))
-  pub counts_only : (p : Program) (es : List Edge) (e d : Edge) → is_edge p e ≡ true → is_listed (counted p es) e ≡ false → Has (counted p (linked p es e)) d → Has (counted p es) d ⊎ (d ≡ e)
+  pub counts_only : (p : Program) (es : List Edge) (e d : Edge) → is_edge p e ≡ true → is_listed (counted p es) e ≡ false → Contains (counted p (linked p es e)) d → Contains (counted p es) d ⊎ (d ≡ e)
   -- so one edge more counts; and where all edges did, all of them do with the new one
   pub counts_more : (p : Program) (es : List Edge) (e : Edge) → is_edge p e ≡ true → is_listed (counted p es) e ≡ false → length (counted p (linked p es e)) ≡ length (counted p es) + 1
   pub all_count : (p : Program) (es : List Edge) (e : Edge) → is_edge p e ≡ true → is_listed (counted p es) e ≡ false → counted p es ≡ es → counted p (linked p es e) ≡ linked p es e

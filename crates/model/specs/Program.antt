@@ -1,6 +1,5 @@
 -- The program of a recipe as mathematics: methods, nodes and rows by number, which pairs of nodes may be edges, and which edges of a list count.
-use Rattle.std.specs.Prelude.{◌≡◌, ℕ, zero, suc, ◌+◌, ◌-◌, ◌<◌, Bool, true, false, cond, not, ◌&&◌, ◌||◌, ◌⊎◌, List, [], ◌∷◌, length, Some, None, Option, ◌==◌, bit_and, nat_lt, slice_index_or}
-use Rattle.std.specs.List.{ContainsAt as Has}
+use Rattle.std.specs.Prelude.{◌≡◌, ℕ, zero, suc, ◌+◌, ◌-◌, ◌<◌, Bool, true, false, cond, not, ◌&&◌, ◌||◌, ◌⊎◌, List, [], ◌∷◌, length, Some, None, Option, ◌==◌, bit_and, nat_lt, slice_index_or, Contains}
 use Rattle.model.specs.declared.Edge.{Edge}
 use Rattle.model.specs.declared.Kind.{Kind}
 use Rattle.model.specs.declared.Kind.TheVariants.{Nop, Call, Check, Return}
@@ -77,7 +76,7 @@ is_edge p e = nat_lt e.from (length p.nodes) && (nat_lt e.to (length p.nodes) &&
 
 -- an edge of the list leads from a to b
 abbrev pub Leads : List Edge → ℕ → ℕ → Type 0
-Leads es a b = Has es (record { from = a; to = b })
+Leads es a b = Contains es (record { from = a; to = b })
 
 -- e rises above d: by from, and then by to
 abbrev pub Rises : Edge → Edge → Type 0

@@ -3,6 +3,7 @@ use Rattle.std.proofs.Common.{◌≡◌, ℕ, ◌+◌, ◌-◌, ◌<◌, ◌≤�
 use Rattle.std.proofs.lemmas.List.{append-nil, append_assoc, reverse-append, length-set, length-take, length-reverse, length-append, length-take-le, get_or-set_same, take-append-drop, take_at, take_more, take_more_set, length_push}
 use Rattle.std.proofs.lemmas.Bool.{false≢true, both_ways, and_parts, and_from, and_left, and_right, le-leb, lt-leb, leb-true, leb-false, cases_lt, cond-true, cond_both}
 use Rattle.std.proofs.lemmas.Bool.Decides.{Decides-eqb, Decides-and, Decides-like, Decides-by_or}
+use Rattle.std.proofs.lemmas.List.Elements.{Decides-contains}
 use Rattle.model.specs.declared.Edge.{Edge}
 use Rattle.model.specs.declared.Frame.{Frame}
 use Rattle.model.specs.declared.Kind.{Kind}
@@ -21,7 +22,7 @@ use Rattle.walker.specs.Walking.{no_frame, leads, step_by, step_from, step_first
 
 -- the test for an edge says what it should
 pub leads_decides : (es : List Edge) (a b : ℕ) → Decides (leads es a b) (Leads es a b)
-leads_decides es a b = Decides-by_or (λ e. eqb e.from a && eqb e.to b) (λ e. e ≡ record { from = a; to = b }) (λ ds. leads ds a b) each refl (λ _ _. refl) es
+leads_decides es a b = Decides-contains es (record { from = a; to = b }) (leads es a b) (Decides-by_or (λ e. eqb e.from a && eqb e.to b) (λ e. e ≡ record { from = a; to = b }) (λ ds. leads ds a b) each refl (λ _ _. refl) es)
   where
     each : (e : Edge) → Decides (eqb e.from a && eqb e.to b) (e ≡ record { from = a; to = b })
     each e =
