@@ -1,7 +1,7 @@
 -- Access rules as mathematics: what a rule is, and the two rules, history and stack inspection.
 use Rattle.std.specs.Prelude.{ℕ, Bool, true, false, cond, ◌&&◌, ◌==◌, bit_and, bit_or, nat_lt}
 use Rattle.model.specs.declared.Kind.{Kind}
-use Rattle.model.specs.declared.Kind.TheVariants.{Nop, Call, Check, Return}
+use Rattle.model.specs.declared.Kind.TheVariants.{Call, Check}
 use Rattle.model.specs.Program.{Program, method_at, node_at, rights_of, is_entry_of, is_return_of}
 
 -- how many values there are, and the four questions: the value at an entry of main; at an entry that a call reached with a value goes to; whether a check reached with a value is passed; and after a call reached with a value, whose callee returned at a node with a value
@@ -14,22 +14,16 @@ pub record Rule : Type 0 where
 
 -- the node is a call, and m an entry of its callee; x a return of its callee
 abbrev pub call_enters : Program → Kind → ℕ → Bool
-call_enters p Nop m = false
 call_enters p (Call callee grant accept privileged) m = is_entry_of p callee m
-call_enters p (Check required) m = false
-call_enters p Return m = false
+call_enters p _ m = false
 
 abbrev pub call_returns : Program → Kind → ℕ → Bool
-call_returns p Nop x = false
 call_returns p (Call callee grant accept privileged) x = is_return_of p callee x
-call_returns p (Check required) x = false
-call_returns p Return x = false
+call_returns p _ x = false
 
 abbrev pub is_check : Kind → Bool
-is_check Nop = false
-is_check (Call callee grant accept privileged) = false
 is_check (Check required) = true
-is_check Return = false
+is_check _ = false
 
 -- the question is put as it should be: about an entry of main; a value below the count, a call and an entry of its callee; a value and a check; two values, a call and a return of its callee
 abbrev pub asks_first : Program → ℕ → Bool
@@ -46,51 +40,41 @@ asks_back p values v n u x = nat_lt v values && (nat_lt u values && call_returns
 
 -- what a node of some kind gives to a rule; 0, and no, if its kind does not have it
 abbrev pub callee_of : Kind → ℕ
-callee_of Nop = 0
 callee_of (Call callee grant accept privileged) = callee
-callee_of (Check required) = 0
-callee_of Return = 0
+callee_of _ = 0
 
 abbrev pub grant_of : Kind → ℕ
-grant_of Nop = 0
 grant_of (Call callee grant accept privileged) = grant
-grant_of (Check required) = 0
-grant_of Return = 0
+grant_of _ = 0
 
 abbrev pub accept_of : Kind → ℕ
-accept_of Nop = 0
 accept_of (Call callee grant accept privileged) = accept
-accept_of (Check required) = 0
-accept_of Return = 0
+accept_of _ = 0
 
 abbrev pub privileged_of : Kind → Bool
-privileged_of Nop = false
 privileged_of (Call callee grant accept privileged) = privileged
-privileged_of (Check required) = false
-privileged_of Return = false
+privileged_of _ = false
 
 abbrev pub required_of : Kind → ℕ
-required_of Nop = 0
-required_of (Call callee grant accept privileged) = 0
 required_of (Check required) = required
-required_of Return = 0
+required_of _ = 0
 
--- sets of rights: union is bit_or, intersection is bit_and. History enters with (C ∪ grant) ∩ the callee's rights, and comes back with C ∩ (u ∪ accept)
+-- sets of rights are numbers: bit_or is union, bit_and intersection. Going in, history adds what is granted and cuts that to what the callee may; coming out it keeps, of what it had before, what the callee was left with or the call accepts
 abbrev pub history_enter : ℕ → ℕ → ℕ → ℕ
 history_enter c grant callee = bit_and (bit_or c grant) callee
 
 abbrev pub history_back : ℕ → ℕ → ℕ → ℕ
 history_back c u accept = bit_and c (bit_or u accept)
 
--- stack inspection enters with C ∩ the callee's rights, or from a privileged call with the caller's rights ∩ the callee's; it comes back with C
+-- going in, stack inspection cuts what it has, or where the call is privileged all that the caller may, to what the callee may; coming out it has again what it had before
 abbrev pub stack_enter : Bool → ℕ → ℕ → ℕ → ℕ
 stack_enter privileged c caller callee = bit_and (cond privileged caller c) callee
 
--- a check is passed if the required rights lie within C
+-- a check lets through who has all that it requires
 abbrev pub holds : ℕ → ℕ → Bool
 holds required c = bit_and required c == required
 
--- both rules have the 65,536 sets of rights for values, begin with main's rights and pass a check in the same way; what is not asked as it should be is answered with 0, or with no
+-- what the two rules share: a value is one of the 65,536 sets of rights, the first one is all that main may, and checks let through the same. A question that is not put as it should be is answered with 0, or with no
 abbrev pub rights_count : ℕ
 rights_count = 65536
 

@@ -2,16 +2,15 @@
 use Rattle.std.specs.Prelude.{◌≡◌, ℕ, suc, ◌<◌, ◌≤◌, true, ◌⊎◌, List, length, slice_index, slice_index_or, Contains}
 use Rattle.model.specs.declared.Edge.{Edge}
 use Rattle.model.specs.declared.Kind.{Kind}
-use Rattle.model.specs.declared.Kind.TheVariants.{Nop, Call, Check, Return}
+use Rattle.model.specs.declared.Kind.TheVariants.{Call, Check}
 use Rattle.model.specs.declared.Node.{Node}
 use Rattle.model.specs.Program.{Program, method_at, node_at, no_edge, no_row, offset, rights_of, Within, EdgeRules, Rises}
 
 -- what a node of a kind may hold, in a recipe of so many methods, in a method with these rights
 abbrev pub KindRules : ℕ → ℕ → Kind → Type 0
-KindRules methods rights Nop = Unit {0}
 KindRules methods rights (Call callee grant accept privileged) = (callee < methods) × Within grant rights × Within accept rights
 KindRules methods rights (Check required) = required < 65536
-KindRules methods rights Return = Unit {0}
+KindRules methods rights _ = Unit {0}
 
 -- a node's mark is one of 32, and it may hold what its kind says
 abbrev pub NodeRules : ℕ → ℕ → Node → Type 0

@@ -2,7 +2,7 @@
 use Rattle.std.specs.Prelude.{◌≡◌, ℕ, zero, suc, ◌+◌, ◌-◌, ◌<◌, Bool, true, false, cond, not, ◌&&◌, ◌||◌, ◌⊎◌, List, [], ◌∷◌, length, Some, None, Option, ◌==◌, bit_and, nat_lt, slice_index_or, Contains}
 use Rattle.model.specs.declared.Edge.{Edge}
 use Rattle.model.specs.declared.Kind.{Kind}
-use Rattle.model.specs.declared.Kind.TheVariants.{Nop, Call, Check, Return}
+use Rattle.model.specs.declared.Kind.TheVariants.{Return}
 use Rattle.model.specs.declared.Method.{Method}
 use Rattle.model.specs.declared.Node.{Node}
 
@@ -51,10 +51,8 @@ abbrev pub Within : ℕ → ℕ → Type 0
 Within s t = bit_and s t ≡ s
 
 abbrev pub is_return : Kind → Bool
-is_return Nop = false
-is_return (Call callee grant accept privileged) = false
-is_return (Check required) = false
 is_return Return = true
+is_return _ = false
 
 -- n is an entry of method m; a return of it
 abbrev pub is_entry_of : Program → ℕ → ℕ → Bool
@@ -63,7 +61,7 @@ is_entry_of p m n = nat_lt n (length p.nodes) && ((node_at p n).entry && home p.
 abbrev pub is_return_of : Program → ℕ → ℕ → Bool
 is_return_of p m n = nat_lt n (length p.nodes) && (is_return (node_at p n).kind && home p.methods n == m)
 
--- the rules for an edge: it leads from a node that is no return to a node of the same method
+-- the rules for an edge: its two nodes are of one method, and the first does not end it
 pub record EdgeRules (p : Program) (e : Edge) : Type 0 where
   pub leaves : e.from < length p.nodes
   pub arrives : e.to < length p.nodes

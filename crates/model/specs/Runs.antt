@@ -3,7 +3,7 @@ use Rattle.std.specs.Prelude.{◌≡◌, ℕ, Bool, true, false, ◌&&◌, List,
 use Rattle.model.specs.declared.Edge.{Edge}
 use Rattle.model.specs.declared.Frame.{Frame}
 use Rattle.model.specs.declared.Kind.{Kind}
-use Rattle.model.specs.declared.Kind.TheVariants.{Nop, Call, Check, Return}
+use Rattle.model.specs.declared.Kind.TheVariants.{Nop, Call, Check}
 use Rattle.model.specs.Access.{Rule, call_enters}
 use Rattle.model.specs.Program.{Program, node_at, is_return, is_entry_of, Leads}
 use Rattle.model.specs.Watches.{Watch}
@@ -12,18 +12,15 @@ use Rattle.model.specs.Watches.{Watch}
 abbrev pub reads : Program → ℕ → ℕ
 reads p n = (node_at p n).mark
 
--- a run at node n with value v may follow an edge: n is a nop, or a check that is passed
+abbrev pub is_call : Kind → Bool
+is_call (Call callee grant accept privileged) = true
+is_call _ = false
+
+-- whether a run at node n with value v may follow an edge: at a nop, and at a check that lets it through
 abbrev pub goes_on : Rule → Kind → ℕ → ℕ → Bool
 goes_on R Nop n v = true
-goes_on R (Call callee grant accept privileged) n v = false
 goes_on R (Check required) n v = R.pass v n
-goes_on R Return n v = false
-
-abbrev pub is_call : Kind → Bool
-is_call Nop = false
-is_call (Call callee grant accept privileged) = true
-is_call (Check required) = false
-is_call Return = false
+goes_on R _ n v = false
 
 -- n is a node, and a return
 abbrev pub returns_at : Program → ℕ → Bool
@@ -31,15 +28,15 @@ returns_at p n = nat_lt n (length p.nodes) && is_return (node_at p n).kind
 
 -- a run of a program with these edges: the nodes that it came to, the last one first; its frames, the top one first; and the watch's state
 pub data Run (p : Program) (es : List Edge) (R : Rule) (W : Watch) : List ℕ → List Frame → ℕ → Type 0 where
-  -- it starts at an entry of main
+  -- it begins at an entry of main
   start : {n : ℕ} → is_entry_of p 0 n ≡ true → Run p es R W (n ∷ []) (record { node = n; value = R.first n } ∷ []) (W.step W.start (reads p n))
-  -- from a nop or a passed check it follows an edge and keeps its value
+  -- where it may go on, along an edge, the value staying
   pass : {t : List ℕ} {n v : ℕ} {fs : List Frame} {q : ℕ} (m : ℕ) → Run p es R W t (record { node = n; value = v } ∷ fs) q → goes_on R (node_at p n).kind n v ≡ true → Leads es n m
       → Run p es R W (m ∷ t) (record { node = m; value = v } ∷ fs) (W.step q (reads p m))
-  -- from a call it puts a frame for an entry of the callee on top
+  -- at a call, into the callee: an entry of it comes on top, and the calling frame waits below
   enter : {t : List ℕ} {n v : ℕ} {fs : List Frame} {q : ℕ} (m : ℕ) → Run p es R W t (record { node = n; value = v } ∷ fs) q → call_enters p (node_at p n).kind m ≡ true
       → Run p es R W (m ∷ t) (record { node = m; value = R.enter v n m } ∷ record { node = n; value = v } ∷ fs) (W.step q (reads p m))
-  -- from a return with a call frame below, it drops the top, and the call frame follows an edge with the value of back
+  -- at a return, out of the callee: its frame goes, and the calling one moves on along an edge, with what back answers
   back : {t : List ℕ} {x u n v : ℕ} {fs : List Frame} {q : ℕ} (m : ℕ) → Run p es R W t (record { node = x; value = u } ∷ record { node = n; value = v } ∷ fs) q → returns_at p x ≡ true → is_call (node_at p n).kind ≡ true → Leads es n m
       → Run p es R W (m ∷ t) (record { node = m; value = R.back v n u x } ∷ fs) (W.step q (reads p m))
 

@@ -174,7 +174,7 @@ unfoldable pub first_bad : Watch → List Fact → ℕ
 first_bad W [] = 0
 first_bad W (r ∷ rows) = cond (W.bad r.state) 0 (suc (first_bad W rows))
 
--- unsafe if a held fact is bad; else full; else safe if all are worked; else unfinished
+-- what is said of a search: a bad fact decides, whatever is left to do; then that a fact was lost; then whether one is to be worked
 abbrev pub verdict_of : Watch → Search → Verdict
 verdict_of W s = cond (any_bad W s.rows) Unsafe (cond s.full Full (cond (nat_le (length s.rows) s.worked) Safe Unfinished))
 
