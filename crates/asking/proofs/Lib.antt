@@ -1,9 +1,7 @@
-pub mod Allowing
 pub mod Anew
 pub mod Carrying
 pub mod Clauses
 pub mod Ending
-pub mod Going
 pub mod Judging
 pub mod Keeping
 pub mod Lasting

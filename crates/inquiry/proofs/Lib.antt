@@ -1,13 +1,16 @@
 pub mod Allowed
+pub mod Allowing
 pub mod Answering
 pub mod Begun
 pub mod Chaining
 pub mod Filling
+pub mod Going
 pub mod Growing
 pub mod Hanging
 pub mod Links
 pub mod Looking
 pub mod Placing
+pub mod Reaching
 pub mod Drained
 pub mod Showing
 pub mod Steps

@@ -1,9 +1,14 @@
 // The verdict, and the end of an inquiry.
-ghost use Rattle.std.specs.Prelude.{◌≡◌, IfOk};
+ghost use Rattle.std.specs.Prelude.{◌≡◌, IfOk, List};
+ghost use Rattle.model.specs.declared.Edge.{Edge};
 ghost use Rattle.model.specs.Tables.{verdict_of};
 ghost use Rattle.inquiry.specs.Calls.{answered, report_of};
+ghost use Rattle.inquiry.specs.declared.requests.Reply.TheVariants.{Judged};
+ghost use Rattle.inquiry.specs.declared.requests.Request.TheVariants.{Verdict as AskVerdict};
+ghost use Rattle.inquiry.specs.Histories.{Opened};
 ghost use Rattle.inquiry.specs.Inquiries.{state_of};
 ghost use Rattle.inquiry.specs.Promises.{Right};
+ghost use Rattle.inquiry.specs.Reached.{IsNext, IsEnd};
 
 use crate::{Inquiry, Report};
 use model::Verdict;
@@ -30,6 +35,7 @@ impl Inquiry<'_> {
     pub fn verdict<W: Watch>(&self, watch: &W) -> Result<Verdict, Refusal>
         ensures answer { result ≡ answered self.now.fits (verdict_of (W.watching watch.now) (state_of self.now)) }
         ensures right { IfOk result (Right (W.watching watch.now) self.now) }
+        ensures history { (C : Opened) (table : List Edge) → C.watch ≡ W.watching watch.now → IsNext C AskVerdict Judged self.now table self.now table result }
     {
         self.fits?;
         Ok(self.judge(watch))
@@ -52,6 +58,7 @@ impl Inquiry<'_> {
         ensures answer { result ≡ answered self.entry.fits (report_of (W.watching watch.now) (state_of self.entry)) }
         ensures right { IfOk result (λ report. Right (W.watching watch.now) self.entry report.verdict) }
         ensures table { self.exit.0.now ≡ self.entry.facts.now }
+        ensures history { (C : Opened) → C.watch ≡ W.watching watch.now → IsEnd C self.entry self.exit.0.now result }
     {
         let answer = self.report(watch);
         let Inquiry {

@@ -1,10 +1,14 @@
 // Digs for facts.
-ghost use Rattle.std.specs.Prelude.{◌≡◌, length};
+ghost use Rattle.std.specs.Prelude.{◌≡◌, ℕ, length};
 ghost use Rattle.model.specs.Searches.{Sound};
 ghost use Rattle.model.specs.Tables.{dug};
 ghost use Rattle.rules.specs.Subjects.{setting_of};
 ghost use Rattle.inquiry.specs.Calls.{answered, unless, in_use, dig_answer, dug_from};
+ghost use Rattle.inquiry.specs.declared.requests.Reply.TheVariants.{Dug as DigDone};
+ghost use Rattle.inquiry.specs.declared.requests.Request.TheVariants.{Dig};
+ghost use Rattle.inquiry.specs.Histories.{opened_on};
 ghost use Rattle.inquiry.specs.Inquiries.{state_of, Grown};
+ghost use Rattle.inquiry.specs.Reached.{IsNext};
 
 use crate::fitting::counts_fit;
 use crate::scene::Scene;
@@ -43,6 +47,7 @@ impl Inquiry<'_> {
         ensures state { let X = setting_of R.meaning W.watching on.now (in_use self.old edges.now) in state_of self.new ≡ unless (dig_answer self.old X (length edges.now)) (dug X self.old.places allowed (state_of self.old)) (state_of self.old) }
         ensures grown { Grown self.old self.new }
         ensures sound { let X = setting_of R.meaning W.watching on.now (in_use self.old edges.now) in Sound X self.old.places (state_of self.old) → Sound X self.old.places (state_of self.new) }
+        ensures history { (places edge_places : ℕ) → IsNext (opened_on R.meaning W.watching on.now places edge_places) (Dig allowed) DigDone self.old edges.now self.new edges.now result }
     {
         self.may_dig(on, edges)?;
         let before = self.worked;

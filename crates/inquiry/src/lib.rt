@@ -16,6 +16,7 @@ mod offering;
 mod opens;
 mod placed;
 mod reports;
+mod requests;
 mod rows;
 mod scene;
 mod tracing;
@@ -26,6 +27,7 @@ pub use inquiring::inquire;
 pub use model::{Fact, Verdict};
 use recipe::Refusal;
 pub use reports::{Dug, Report};
+pub use requests::{Reply, Request};
 
 // What there is to be of at an opening, and at each dig: nodes, values, states and edge places.
 #[derive(Clone, Copy, PartialEq, Eq)]

@@ -1,12 +1,16 @@
 // Links: a new edge among those that are in use.
-ghost use Rattle.std.specs.Prelude.{◌≡◌, ◌≤◌, ◌<◌, ◌+◌, ◌∷◌, ◌++◌, length, take, drop};
+ghost use Rattle.std.specs.Prelude.{◌≡◌, ℕ, ◌≤◌, ◌<◌, ◌+◌, ◌∷◌, ◌++◌, length, take, drop};
 ghost use Rattle.model.specs.Links.{is_listed, rising_place, linked};
 ghost use Rattle.model.specs.Program.{counted};
 ghost use Rattle.model.specs.Searches.{Sound, unworked};
 ghost use Rattle.recipe.specs.Recipes.{program};
 ghost use Rattle.rules.specs.Subjects.{setting_of};
 ghost use Rattle.inquiry.specs.Calls.{answered, unless, in_use, link_answer};
+ghost use Rattle.inquiry.specs.declared.requests.Reply.TheVariants.{Linked};
+ghost use Rattle.inquiry.specs.declared.requests.Request.TheVariants.{Link};
+ghost use Rattle.inquiry.specs.Histories.{opened_on};
 ghost use Rattle.inquiry.specs.Inquiries.{state_of, Kept};
+ghost use Rattle.inquiry.specs.Reached.{IsNext};
 
 use crate::Inquiry;
 use recipe::{Edge, Recipe, Refusal};
@@ -87,6 +91,7 @@ impl Inquiry<'_> {
         ensures used { let X = setting_of R.meaning W.watching on.now (in_use self.old edges.old) in self.new.opening ≡ unless (link_answer self.old X edges.old self.old.full edge) (record { counts = self.old.opening.counts; used = self.old.opening.used + 1 }) self.old.opening }
         ensures kept { Kept self.old self.new }
         ensures sound { Sound (setting_of R.meaning W.watching on.now (in_use self.old edges.old)) self.old.places (state_of self.old) → Sound (setting_of R.meaning W.watching on.now (in_use self.new edges.new)) self.old.places (state_of self.new) }
+        ensures history { (places edge_places : ℕ) → IsNext (opened_on R.meaning W.watching on.now places edge_places) (Link edge.from edge.to) (λ n. Linked n) self.old edges.old self.new edges.new result }
     {
         self.may_link(on, edges, edge)?;
         let used = self.opening.used;

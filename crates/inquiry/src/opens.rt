@@ -5,7 +5,9 @@ ghost use Rattle.model.specs.Tables.{opened, empty};
 ghost use Rattle.recipe.specs.Recipes.{own_edges};
 ghost use Rattle.rules.specs.Subjects.{setting_of};
 ghost use Rattle.inquiry.specs.Calls.{unless, fit_answer, counts_of, opening_of};
+ghost use Rattle.inquiry.specs.Histories.{opened_on, fit_of};
 ghost use Rattle.inquiry.specs.Inquiries.{state_of};
+ghost use Rattle.inquiry.specs.Reached.{Reached};
 
 use crate::fitting::fit;
 use crate::scene::Scene;
@@ -54,6 +56,7 @@ impl<'t> Inquiry<'t> {
         ensures rest { drop result.held result.facts.now ≡ drop result.held facts.old }
         ensures edges { let own = own_edges on.now.recipe.now in let X = setting_of R.meaning W.watching on.now own in edges.new ≡ unless (fit_answer X (length own) (length facts.old) (length edges.old)) (own ++ drop (length own) edges.old) edges.old }
         ensures sound { let own = own_edges on.now.recipe.now in let X = setting_of R.meaning W.watching on.now own in Ok tt ≡ fit_answer X (length own) (length facts.old) (length edges.old) → Sound X (length facts.old) (state_of result) }
+        ensures history { let C = opened_on R.meaning W.watching on.now (length facts.old) (length edges.old) in fit_of C ≡ Ok tt → Reached C [] result edges.new }
     {
         let fits = fit(on, facts, edges);
         let counts = Counts::of(on, edges.len());

@@ -2,8 +2,11 @@
 ghost use Rattle.std.specs.Prelude.{◌≡◌, ◌-◌, ◌<◌, ◌≤◌, true, false, ◌++◌, length, take, drop, reverse, IfOk, MatchOption};
 ghost use Rattle.model.specs.Tables.{row_at, capped, any_bad, first_bad};
 ghost use Rattle.inquiry.specs.Calls.{answered, unless, trace_answer, trace_length, trace_output};
+ghost use Rattle.inquiry.specs.declared.requests.Reply.TheVariants.{Traced};
+ghost use Rattle.inquiry.specs.Histories.{Opened};
 ghost use Rattle.inquiry.specs.Inquiries.{state_of};
 ghost use Rattle.inquiry.specs.Promises.{Bad};
+ghost use Rattle.inquiry.specs.Reached.{IsNextTrace};
 ghost use Rattle.inquiry.specs.Shapes.{span_at, tale_from, stretch_from, back_from, with_end};
 
 use crate::Inquiry;
@@ -114,6 +117,7 @@ impl Inquiry<'_> {
         ensures answer { result ≡ answered (trace_answer self.now (W.watching watch.now) (length out.old)) (trace_length (W.watching watch.now) (state_of self.now)) }
         ensures output { out.new ≡ unless (trace_answer self.now (W.watching watch.now) (length out.old)) (trace_output (W.watching watch.now) (state_of self.now) out.old) out.old }
         ensures bad { IfOk result (λ nodes. Bad (W.watching watch.now) self.now (take nodes out.new)) }
+        ensures history { (C : Opened) → C.watch ≡ W.watching watch.now → IsNextTrace C (λ n. Traced n) self.now out.old out.new result }
     {
         self.fits?;
         let Some(at) = self.first_bad(watch) else {

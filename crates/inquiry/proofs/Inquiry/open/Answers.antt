@@ -7,6 +7,7 @@ use Rattle.rules.specs.Subjects.{setting_of}
 use Rattle.inquiry.specs.Calls.{fit_answer}
 use Rattle.inquiry.proofs.Answering.{leaves_new}
 use Rattle.inquiry.proofs.Begun.{opened_is}
+use Rattle.inquiry.proofs.Reaching.{open_reaches}
 use Rattle.inquiry.proofs.Inquiry.open.Goals as goal
 
 pub returns-clause-state : goal.returns-clause-state
@@ -22,3 +23,7 @@ returns-clause-sound g c =
     let X = setting_of g.R.AccessRule.meaning g.W.Watch.watching c.args.on.now (own_edges c.args.on.now.recipe.now) in
     let places = length c.args.facts.now in
     λ _. subst (Sound X places) (sym (c.begin.ensures.state ∙ opened_is X places)) (opened_sound X places)
+
+pub returns-clause-history : goal.returns-clause-history
+returns-clause-history g c =
+    λ ok. open_reaches g.R.AccessRule.meaning g.W.Watch.watching c.args.on.now _ _ (length c.args.facts.now) (length c.args.edges.now) c.args.edges.now ok (search rules) (search rules) (search rules) (search rules) (returns-clause-state g c) (search rules)

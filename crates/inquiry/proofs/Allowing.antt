@@ -9,15 +9,12 @@ use Rattle.model.specs.Tables.{capped, Search, any_bad}
 use Rattle.model.specs.Watches.{Watch}
 use Rattle.recipe.specs.declared.grounds.Refusal.{Refusal}
 use Rattle.recipe.specs.declared.grounds.Refusal.TheVariants.{NotAnEdge, EdgeHeld, EdgesFull, InquiryFull, NotUnsafe, LongTrace}
-use Rattle.inquiry.specs.Calls.{Allowed, link_allowed, trace_length, trace_allowed, trace_output}
-use Rattle.asking.specs.Histories.{Opened, Standing}
+use Rattle.inquiry.specs.Calls.{Allowed, link_allowed, trace_length, trace_allowed}
+use Rattle.inquiry.specs.Histories.{Opened, Standing}
 
--- the standing with an accepted link, and with the trace written
+-- the standing with an accepted link
 abbrev pub linked_at : Opened → Standing → Edge → Standing
-linked_at C s e = record { edges = linked C.program s.edges e; search = unworked s.search; output = s.output }
-
-abbrev pub traced_at : Opened → Standing → Standing
-traced_at C s = record { edges = s.edges; search = s.search; output = trace_output C.watch s.search s.output }
+linked_at C s e = record { edges = linked C.program s.edges e; search = unworked s.search }
 
 module _ (p : Program) (used : List Edge) (places : ℕ) (full : Bool) (e : Edge) where
   -- a link is refused, or it is an edge by the rules, none that counts, a place is free, and the search is not full

@@ -5,13 +5,13 @@ use Rattle.model.specs.Facts.{Setting}
 use Rattle.model.specs.Tables.{Search, work, pending, dug}
 use Rattle.model.proofs.Verdicts.{search_laws}
 use Rattle.recipe.specs.declared.grounds.Refusal.{Refusal}
-use Rattle.inquiry.specs.Calls.{answered, unless, trace_length}
-use Rattle.asking.specs.declared.requests.Request.{Request}
-use Rattle.asking.specs.declared.requests.Request.TheVariants.{Dig, Link, Verdict, Trace}
-use Rattle.asking.specs.declared.requests.Reply.TheVariants.{Linked, Traced}
-use Rattle.asking.specs.Histories.{Opened, Standing, with_table, begun, may_link, may_trace, answer, step, after_from, replies_from, accepted_one, accepted, after, asked, replies}
+use Rattle.inquiry.specs.Calls.{answered, unless}
+use Rattle.inquiry.specs.declared.requests.Request.{Request}
+use Rattle.inquiry.specs.declared.requests.Request.TheVariants.{Dig, Link, Verdict, Trace}
+use Rattle.inquiry.specs.declared.requests.Reply.TheVariants.{Linked}
+use Rattle.inquiry.specs.Histories.{Opened, Standing, with_table, begun, may_link, answer, step, output_by, after_from, output_from, replies_from, accepted_one, accepted, after, asked, replies}
 use Rattle.inquiry.proofs.Allowed.{by_allowed}
-use Rattle.asking.proofs.Allowing.{linked_at, traced_at}
+use Rattle.inquiry.proofs.Allowing.{linked_at}
 
 -- a dig and then another come to what one dig of both comes to
 dug_more : (X : Setting) (places j k : ℕ) (s : Search) → dug X places k (dug X places j s) ≡ dug X places (j + k) s
@@ -53,6 +53,12 @@ module _ (C : Opened) where
       ap (λ es. one ++ es) (accepted_more (step C s r) rs ss)
       ∙ sym (append_assoc one (accepted rs (replies_from C (step C s r) rs)) (accepted ss (replies_from C (after_from C (step C s r) rs) ss)))
 
+  -- and an output holds what it does after the others, from what it held after the first
+  pub output_more : (s : Standing) (rs ss : List Request) (out : List ℕ) → output_from C s (rs ++ ss) out ≡ output_from C (after_from C s rs) ss (output_from C s rs out)
+  unfolding after_from output_from
+  output_more s [] ss out = refl
+  output_more s (r ∷ rs) ss out = output_more (step C s r) rs ss (output_by C s r out)
+
   -- some requests and one more lead one step further
   pub after_one : (rs : List Request) (r : Request) → after C (rs ++ r ∷ []) ≡ step C (after C rs) r
   unfolding after_from
@@ -65,8 +71,7 @@ module _ (C : Opened) where
       by_allowed (λ o. answered o (Linked (length s.edges + 1)) ≡ Err why → unless o (linked_at C s (record { from = from; to = to })) s ≡ s) (may_link C s from to)
       (λ h. absurd (let z : ◌≡◌ {A = ℕ} 0 1 = cc in omega arith)) (λ _ _. refl) e
   step_refused s Verdict why e = refl
-  step_refused s Trace why e =
-      by_allowed (λ o. answered o (Traced (trace_length C.watch s.search)) ≡ Err why → unless o (traced_at C s) s ≡ s) (may_trace C s) (λ h. absurd (let z : ◌≡◌ {A = ℕ} 0 1 = cc in omega arith)) (λ _ _. refl) e
+  step_refused s (Trace room) why e = refl
 
   -- so after it everything is as it was
   pub refused_rests : (rs : List Request) (r : Request) (why : Refusal) → asked C rs r ≡ Err why → after C (rs ++ r ∷ []) ≡ after C rs
@@ -77,5 +82,5 @@ module _ (C : Opened) where
   unfolding after_from
   dug_pieces rs j k =
       let s = after C rs in
-      after_more (begun C) rs (Dig j ∷ Dig k ∷ []) ∙ ap (λ (u : Search). record { edges = s.edges; search = u; output = s.output }) (dug_more (with_table C s.edges) C.places j k s.search)
+      after_more (begun C) rs (Dig j ∷ Dig k ∷ []) ∙ ap (λ (u : Search). record { edges = s.edges; search = u }) (dug_more (with_table C s.edges) C.places j k s.search)
       ∙ sym (after_one rs (Dig (j + k)))

@@ -1,8 +1,8 @@
-// What may be asked of an open inquiry, and what that is answered.
+// What may be asked of an open inquiry, and what that is answered: a history of calls is a list of requests.
 ghost use Rattle.std.specs.Prelude.{◌≡◌};
-ghost use Rattle.asking.specs.Histories.{written_by};
+ghost use Rattle.inquiry.specs.Histories.{written_by};
 
-use inquiry::{Dug, Verdict};
+use crate::{Dug, Verdict};
 
 // A request.
 #[derive(Clone, Copy, PartialEq, Eq, Debug)]
@@ -13,8 +13,8 @@ pub enum Request {
     Link { from: u32, to: u32 },
     // Say what the facts that are held come to.
     Verdict,
-    // Write the trace of the first bad fact to the output.
-    Trace,
+    // Write the trace of the first bad fact to the first places of an output, at most so many.
+    Trace { room: u32 },
 }
 
 // What a request is answered that is not refused.
