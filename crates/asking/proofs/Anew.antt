@@ -15,13 +15,13 @@ use Rattle.model.proofs.Verdicts.{search_laws}
 use Rattle.model.proofs.Lists.{has_here}
 use Rattle.walker.proofs.Walks.{leads_decides}
 use Rattle.inquiry.specs.Calls.{answered}
-use Rattle.asking.specs.declared.requests.Request.{Request}
-use Rattle.asking.specs.declared.requests.Request.TheVariants.{Dig, Link}
-use Rattle.asking.specs.declared.requests.Reply.TheVariants.{Linked}
-use Rattle.asking.specs.Histories.{Opened, with_table, Standing, begun, may_link, answer, step, after_from, replies_from, accepted_one, accepted, after, links}
+use Rattle.inquiry.specs.declared.requests.Request.{Request}
+use Rattle.inquiry.specs.declared.requests.Request.TheVariants.{Dig, Link}
+use Rattle.inquiry.specs.declared.requests.Reply.TheVariants.{Linked}
+use Rattle.inquiry.specs.Histories.{Opened, with_table, Standing, begun, may_link, answer, step, after_from, replies_from, accepted_one, accepted, after, links}
 use Rattle.asking.specs.Law.{Says, facts_after, anew}
-use Rattle.asking.proofs.Allowing.{link_passes}
-use Rattle.asking.proofs.Going.{after_more, accepted_more}
+use Rattle.inquiry.proofs.Allowing.{link_passes}
+use Rattle.inquiry.proofs.Going.{after_more, accepted_more}
 use Rattle.asking.proofs.Judging.{said, says, through_if_safe, unsafe_if_bad, safe_if_through}
 use Rattle.asking.proofs.Keeping.{same_edge, same_edge_laws, Keeps, keeps_step, keeps_begun, keeps, keeps_shuffled}
 use Rattle.asking.proofs.Moving.{more_goes_bad}

@@ -15,15 +15,16 @@ use Rattle.inquiry.specs.declared.Inquiry.{Inquiry}
 use Rattle.inquiry.specs.declared.Opening.{Opening}
 use Rattle.inquiry.specs.Calls.{Allowed, answered, unless, opening_of, report_of}
 use Rattle.inquiry.specs.Inquiries.{state_of}
+use Rattle.inquiry.specs.Reached.{Reached}
 use Rattle.inquiry.proofs.Answering.{held_is}
 use Rattle.inquiry.proofs.Growing.{drop_later}
-use Rattle.asking.specs.declared.requests.Request.{Request}
-use Rattle.asking.specs.declared.requests.Reply.{Reply}
-use Rattle.asking.specs.Asked.{opened_on, fit_of, recorded}
-use Rattle.asking.specs.Made.{Stands, Void, Made}
-use Rattle.asking.specs.Histories.{Opened, Standing, with_table, begun, step, after, replies, replies_from, after_from}
+use Rattle.inquiry.specs.declared.requests.Request.{Request}
+use Rattle.inquiry.specs.declared.requests.Reply.{Reply}
+use Rattle.asking.specs.Asked.{recorded, report_left, replies_left, facts_left, edges_left, output_left}
+use Rattle.asking.specs.Made.{Carried, Void, Made}
+use Rattle.inquiry.specs.Histories.{Opened, opened_on, fit_of, Standing, with_table, begun, step, output_by, output_from, output_after, after, replies, replies_from, after_from}
 use Rattle.model.proofs.Nexts.{next_lt, next_taken}
-use Rattle.asking.proofs.Going.{after_more, record_grows}
+use Rattle.inquiry.proofs.Going.{record_grows, output_more}
 
 -- nothing is left of a front that is empty, or whose list is
 pub front_none : {A : Type 0} (n : ℕ) (xs : List A) → (0 < n → length xs ≡ 0) → take n xs ≡ []
@@ -43,12 +44,13 @@ recorded_length (Err e) C rs = length-map rs (λ r. Err e)
 
 module _ {R W : Type 0} (meaning : R → Program → Rule) (watching : W → Watch) (on : Subject R W) (places edge_places : ℕ) (blank : List ℕ) (first : Inquiry) (lent : List Edge) (made : List Request) (old : List (Result Reply Refusal)) where
   abbrev C : Opened
-  C = opened_on meaning watching on places edge_places blank
+  C = opened_on meaning watching on places edge_places
 
-  -- so many requests are made: the inquiry stands where they lead, or it is void and everything is as it was; the record has their answers
+  -- so many requests are made: the inquiry and the output are where they lead, or it is void and everything is as it was; the record has their answers
   pub record Going (k : ℕ) (i : Inquiry) (table : List Edge) (output : List ℕ) (log : List (Result Reply Refusal)) : Type 0 where
     pub some : k ≤ length made
-    pub stands : fit_of C ≡ Ok tt → Stands C first lent i table output (after C (take k made))
+    pub carried : fit_of C ≡ Ok tt → Carried C (take k made) first lent i table
+    pub written : fit_of C ≡ Ok tt → output ≡ output_after C (take k made) blank
     pub void : (e : Refusal) → fit_of C ≡ Err e → Void e first lent blank i table output
     pub log_is : log ≡ recorded (fit_of C) C (take k made) ++ drop k old
 
@@ -57,9 +59,8 @@ module _ {R W : Type 0} (meaning : R → Program → Rule) (watching : W → Wat
     lt : k < length made
     lt = next_lt made k r rest next
 
-    after_next : after C (take (k + 1) made) ≡ step C (after C (take k made)) r
-    unfolding after_from
-    after_next = ap (after C) (next_taken made k r rest next) ∙ after_more C (begun C) (take k made) (r ∷ [])
+    made_next : take (k + 1) made ≡ take k made ++ r ∷ []
+    made_next = next_taken made k r rest next
 
     -- the record with a reply more
     log_next : (o : Allowed) (reply : Result Reply Refusal) → recorded o C (take (k + 1) made) ≡ recorded o C (take k made) ++ reply ∷ [] → log ≡ recorded o C (take k made) ++ drop k old → set log k reply ≡ recorded o C (take (k + 1) made) ++ drop (k + 1) old
@@ -71,9 +72,12 @@ module _ {R W : Type 0} (meaning : R → Program → Rule) (watching : W → Wat
         ∙ sym (append_assoc (recorded o C (take k made)) (reply ∷ []) (drop (k + 1) old)) ∙ ap (λ xs. xs ++ drop (k + 1) old) (sym grows)
 
     pub going_on : {later : Inquiry} {table_later : List Edge} {output_later : List ℕ} {reply : Result Reply Refusal} → Made meaning watching on r i table output later table_later output_later reply → Going (k + 1) later table_later output_later (set log k reply)
+    unfolding output_from
     going_on {later} {table_later} {output_later} {reply} m = record {
       some = let l = lt in omega arith;
-      stands = λ ok. subst (λ (s : Standing). Stands C first lent later table_later output_later s) (sym after_next) (m.standing places edge_places blank first lent (after C (take k made)) ok (h.stands ok)).1;
+      carried = λ ok. subst (λ rs. Carried C rs first lent later table_later) (sym made_next) (m.carried places edge_places (take k made) first lent (h.carried ok)).2;
+      written = λ ok.
+          (m.carried places edge_places (take k made) first lent (h.carried ok)).1 ∙ ap (output_by C (after C (take k made)) r) (h.written ok) ∙ sym (output_more C (begun C) (take k made) (r ∷ []) blank) ∙ ap (λ rs. output_after C rs blank) (sym made_next);
       void = λ e refused. (m.void e first lent blank (h.void e refused)).1;
       log_is = by (fit_of C) refl;
     }
@@ -81,39 +85,24 @@ module _ {R W : Type 0} (meaning : R → Program → Rule) (watching : W → Wat
         by : (o : Allowed) → fit_of C ≡ o → set log k reply ≡ recorded (fit_of C) C (take (k + 1) made) ++ drop (k + 1) old
         by (Ok u) ok =
             let was = h.log_is ∙ ap (λ o. recorded o C (take k made) ++ drop k old) ok in
-            let reply_is = (m.standing places edge_places blank first lent (after C (take k made)) ok (h.stands ok)).0 in
-            let grows : replies C (take (k + 1) made) ≡ replies C (take k made) ++ reply ∷ [] = ap (replies C) (next_taken made k r rest next) ∙ record_grows C (take k made) r ∙ ap (λ a. replies C (take k made) ++ a ∷ []) (sym reply_is) in
+            let reply_is = (m.carried places edge_places (take k made) first lent (h.carried ok)).0 in
+            let grows : replies C (take (k + 1) made) ≡ replies C (take k made) ++ reply ∷ [] = ap (replies C) made_next ∙ record_grows C (take k made) r ∙ ap (λ a. replies C (take k made) ++ a ∷ []) (sym reply_is) in
             log_next (Ok tt) reply grows was ∙ ap (λ o. recorded o C (take (k + 1) made) ++ drop (k + 1) old) (sym ok)
         by (Err e) refused =
             let was = h.log_is ∙ ap (λ o. recorded o C (take k made) ++ drop k old) refused in
             let reply_is = (m.void e first lent blank (h.void e refused)).0 in
-            let grows : recorded (Err e) C (take (k + 1) made) ≡ recorded (Err e) C (take k made) ++ reply ∷ [] = ap (map (λ q. Err e)) (next_taken made k r rest next) ∙ map-append _ (take k made) (r ∷ []) ∙ ap (λ a. map (λ q. Err e) (take k made) ++ a ∷ []) (sym reply_is) in
+            let grows : recorded (Err e) C (take (k + 1) made) ≡ recorded (Err e) C (take k made) ++ reply ∷ [] = ap (map (λ q. Err e)) made_next ∙ map-append _ (take k made) (r ∷ []) ∙ ap (λ a. map (λ q. Err e) (take k made) ++ a ∷ []) (sym reply_is) in
             log_next (Err e) reply grows was ∙ ap (λ o. recorded o C (take (k + 1) made) ++ drop (k + 1) old) (sym refused)
 
   -- none yet, at the opening
-  pub going_start : (before : List Edge) → length lent ≡ edge_places → first.fits ≡ fit_of C → first.opening ≡ opening_of (fit_of C) (with_table C C.own) (length C.own) edge_places → first.places ≡ unless (fit_of C) places 0
-      → state_of first ≡ unless (fit_of C) (opened (with_table C C.own) places) empty → lent ≡ unless (fit_of C) (C.own ++ drop (length C.own) before) before → Going 0 first lent blank old
-  unfolding after_from replies_from
-  going_start before long refusal opening room state edges = record {
+  pub going_start : first.fits ≡ fit_of C → first.opening ≡ opening_of (fit_of C) (with_table C C.own) (length C.own) edge_places → (fit_of C ≡ Ok tt → Reached C [] first lent) → Going 0 first lent blank old
+  unfolding output_from replies_from
+  going_start refusal opening reached = record {
     some = omega arith;
-    stands = λ ok.
-        let opens : first.opening ≡ opening_of (Ok tt) (with_table C C.own) (length C.own) edge_places = opening ∙ ap (λ o. opening_of o (with_table C C.own) (length C.own) edge_places) ok in
-        let uses = ap (λ (o : Opening). o.used) opens in
-        let copied = edges ∙ ap (λ o. unless o (C.own ++ drop (length C.own) before) before) ok in
-        record {
-          fits = refusal ∙ ok;
-          places = room ∙ ap (λ o. unless o places 0) ok;
-          counts = ap (λ (o : Opening). o.counts) opens;
-          long = long;
-          used = (λ i. take (uses i) (copied i)) ∙ take_at C.own (drop (length C.own) before) (length C.own) refl;
-          search = state ∙ ap (λ o. unless o (opened (with_table C C.own) places) empty) ok;
-          written = refl;
-          same = refl;
-          more = omega arith;
-          more_used = omega arith;
-          facts_rest = refl;
-          edges_rest = refl;
-        };
+    carried = λ ok.
+        let uses : first.opening.used ≡ length C.own = ap (λ (o : Opening). o.used) (opening ∙ ap (λ o. opening_of o (with_table C C.own) (length C.own) edge_places) ok) in
+        record { reached = reached ok; same = refl; more = omega arith; more_used = omega arith; facts_rest = refl; edges_rest = refl };
+    written = λ ok. refl;
     void = λ e refused. record { fits = refusal ∙ refused; facts = refl; same = refl; edges = refl; written = refl };
     log_is = by (fit_of C);
   }
@@ -130,8 +119,8 @@ module _ {R W : Type 0} (meaning : R → Program → Rule) (watching : W → Wat
     abbrev end : Standing
     end = after C made
 
-    stands_end : fit_of C ≡ Ok tt → Stands C first lent i table output end
-    stands_end ok = subst (λ rs. Stands C first lent i table output (after C rs)) all (h.stands ok)
+    carried_end : fit_of C ≡ Ok tt → Carried C made first lent i table
+    carried_end ok = subst (λ rs. Carried C rs first lent i table) all (h.carried ok)
 
     -- by whether the tables fit
     by_fit : (P : Allowed → Type 0) → (fit_of C ≡ Ok tt → P (Ok tt)) → ((e : Refusal) → fit_of C ≡ Err e → P (Err e)) → P (fit_of C)
@@ -141,43 +130,43 @@ module _ {R W : Type 0} (meaning : R → Program → Rule) (watching : W → Wat
         by (Ok u) is = ok is
         by (Err e) is = refused e is
 
-    pub end_log : log ≡ recorded (fit_of C) C made ++ drop (length made) old
+    pub end_log : log ≡ replies_left C made old
     end_log = let n = sym (length-drop k made) ∙ ap length none in let few = h.some in let whole : k ≡ length made = omega arith in h.log_is ∙ (λ j. recorded (fit_of C) C (all j) ++ drop (whole j) old)
 
     pub end_answer : (W : Watch) → answered i.fits (report_of W (state_of i)) ≡ answered (fit_of C) (report_of W end.search)
     end_answer W =
         by_fit (λ o. answered i.fits (report_of W (state_of i)) ≡ answered o (report_of W end.search))
-        (λ ok. let s = stands_end ok in λ j. answered (s.fits j) (report_of W (s.search j)))
+        (λ ok. let s = (carried_end ok).reached in λ j. answered (s.fits j) (report_of W (s.search j)))
         (λ e refused. let v = h.void e refused in ap (λ o. answered o (report_of W (state_of i))) v.fits)
 
     -- the table of facts is still the one that was lent
     pub end_same : i.facts.ghost_name ≡ first.facts.ghost_name
-    end_same = by_fit (λ o. i.facts.ghost_name ≡ first.facts.ghost_name) (λ ok. (stands_end ok).same) (λ e refused. (h.void e refused).same)
+    end_same = by_fit (λ o. i.facts.ghost_name ≡ first.facts.ghost_name) (λ ok. (carried_end ok).same) (λ e refused. (h.void e refused).same)
 
-    pub end_output : output ≡ unless (fit_of C) end.output blank
-    end_output = by_fit (λ o. output ≡ unless o end.output blank) (λ ok. (stands_end ok).written) (λ e refused. (h.void e refused).written)
+    pub end_output : output ≡ output_left C made blank
+    end_output = by_fit (λ o. output ≡ unless o (output_after C made blank) blank) (λ ok. h.written ok ∙ ap (λ rs. output_after C rs blank) all) (λ e refused. (h.void e refused).written)
 
-    pub end_edges : (before : List Edge) → lent ≡ unless (fit_of C) (C.own ++ drop (length C.own) before) before → table ≡ unless (fit_of C) (end.edges ++ drop (length end.edges) before) before
+    pub end_edges : (before : List Edge) → lent ≡ unless (fit_of C) (C.own ++ drop (length C.own) before) before → table ≡ edges_left C made before
     end_edges before edges =
         by_fit (λ o. table ≡ unless o (end.edges ++ drop (length end.edges) before) before)
         (λ ok.
-        let s = stands_end ok in
+        let s = carried_end ok in
         let copied = edges ∙ ap (λ o. unless o (C.own ++ drop (length C.own) before) before) ok in
         let rest = ap (drop (length C.own)) copied ∙ drop_at C.own (drop (length C.own) before) (length C.own) refl in
         let inside = i.used in
-        let places_is : i.opening.counts.places ≡ length table = ap (λ (c : Counts). c.places) s.counts ∙ sym s.long in
+        let places_is : i.opening.counts.places ≡ length table = ap (λ (c : Counts). c.places) s.reached.counts ∙ sym s.reached.long in
         let within : i.opening.used ≤ length table = omega arith in
-        let long : length end.edges ≡ i.opening.used = ap length (sym s.used) ∙ length-take-le i.opening.used table within in
-        sym (take-append-drop i.opening.used table) ∙ (λ j. s.used j ++ (s.edges_rest ∙ drop_later (length C.own) i.opening.used lent before s.more_used rest) j) ∙ ap (λ n. end.edges ++ drop n before) (sym long))
+        let long : length end.edges ≡ i.opening.used = ap length (sym s.reached.used) ∙ length-take-le i.opening.used table within in
+        sym (take-append-drop i.opening.used table) ∙ (λ j. s.reached.used j ++ (s.edges_rest ∙ drop_later (length C.own) i.opening.used lent before s.more_used rest) j) ∙ ap (λ n. end.edges ++ drop n before) (sym long))
         (λ e refused. (h.void e refused).edges ∙ edges ∙ ap (λ o. unless o (C.own ++ drop (length C.own) before) before) refused)
 
-    pub end_facts : (facts : List Fact) → state_of first ≡ unless (fit_of C) (opened (with_table C C.own) places) empty → drop first.held first.facts.now ≡ drop first.held facts → i.facts.now ≡ unless (fit_of C) (end.search.rows ++ drop (length end.search.rows) facts) facts
+    pub end_facts : (facts : List Fact) → state_of first ≡ unless (fit_of C) (opened (with_table C C.own) places) empty → drop first.held first.facts.now ≡ drop first.held facts → i.facts.now ≡ facts_left C made facts
     end_facts facts state rest =
         by_fit (λ o. i.facts.now ≡ unless o (end.search.rows ++ drop (length end.search.rows) facts) facts)
         (λ ok.
-        let s = stands_end ok in
-        let long : i.held ≡ length end.search.rows = held_is i ∙ ap (λ (t : Search). length t.rows) s.search in
-        sym (take-append-drop i.held i.facts.now) ∙ (λ j. ap (λ (t : Search). t.rows) s.search j ++ (s.facts_rest ∙ drop_later first.held i.held first.facts.now facts s.more rest) j) ∙ ap (λ n. end.search.rows ++ drop n facts) long)
+        let s = carried_end ok in
+        let long : i.held ≡ length end.search.rows = held_is i ∙ ap (λ (t : Search). length t.rows) s.reached.search in
+        sym (take-append-drop i.held i.facts.now) ∙ (λ j. ap (λ (t : Search). t.rows) s.reached.search j ++ (s.facts_rest ∙ drop_later first.held i.held first.facts.now facts s.more rest) j) ∙ ap (λ n. end.search.rows ++ drop n facts) long)
         (λ e refused.
         let nothing : first.held ≡ 0 = held_is first ∙ ap (λ (t : Search). length t.rows) (state ∙ ap (λ o. unless o (opened (with_table C C.own) places) empty) refused) in
         (h.void e refused).facts ∙ ap (λ n. drop n first.facts.now) (sym nothing) ∙ rest ∙ ap (λ n. drop n facts) nothing)

@@ -1,31 +1,34 @@
 -- The law of an inquiry: what its answers say, clause by clause.
-use Rattle.std.proofs.Common.{◌≡◌, ℕ, ◌<◌, true, ◌⊎◌, List, [], ◌∷◌, ◌++◌, length, Err, sym, refl, ◌∙◌, subst, subst₂, inl, inr, ⊎_elim}
+use Rattle.std.proofs.Common.{◌≡◌, ℕ, ◌<◌, ◌≤◌, true, ◌⊎◌, List, ◌++◌, length, Err, refl, ap, ◌∙◌, subst, subst₂, inl, inr, ⊎_elim, arith}
 use Rattle.std.proofs.lemmas.Bool.{both_ways, cases_Bool}
-use Rattle.std.proofs.lemmas.List.{length-map}
 use Rattle.model.specs.declared.Point.{Point}
+use Rattle.model.specs.declared.Verdict.{Verdict as Outcome}
 use Rattle.model.specs.declared.Verdict.TheVariants.{Safe, Unsafe, Full}
-use Rattle.model.specs.Facts.{Setting, Yields, RunGoesBad}
-use Rattle.model.specs.Searches.{BadTrace, Different, Means, Told, first_trace}
-use Rattle.model.specs.Tables.{row_at, any_bad, first_bad, start_of, end_of, verdict_of}
+use Rattle.model.specs.Facts.{Setting, Yields}
+use Rattle.model.specs.Lawful.{Lawful}
+use Rattle.model.specs.Searches.{BadTrace, Means, Told, first_trace}
+use Rattle.model.specs.Tables.{row_at, any_bad, first_bad, verdict_of}
+use Rattle.model.proofs.Edges.{lawful_counted, lawful_with}
 use Rattle.model.proofs.Links.{link_laws}
 use Rattle.model.proofs.Traces.{first_is_bad}
 use Rattle.model.proofs.Verdicts.{none_bad, search_laws}
 use Rattle.recipe.specs.declared.grounds.Refusal.TheVariants.{NotUnsafe}
 use Rattle.inquiry.specs.Calls.{answered, trace_length}
-use Rattle.asking.specs.declared.requests.Request.{Request}
-use Rattle.asking.specs.declared.requests.Request.TheVariants.{Verdict, Trace}
-use Rattle.asking.specs.declared.requests.Reply.TheVariants.{Traced}
-use Rattle.asking.specs.Histories.{Opened, with_table, Standing, after, asked, links, linked_recipe}
-use Rattle.asking.specs.Law.{Says, facts_after, HeldAfter, Written, Shown, Law}
-use Rattle.asking.proofs.Allowing.{trace_cases}
+use Rattle.inquiry.specs.declared.requests.Request.{Request}
+use Rattle.inquiry.specs.declared.requests.Request.TheVariants.{Verdict, Trace}
+use Rattle.inquiry.specs.declared.requests.Reply.TheVariants.{Traced}
+use Rattle.inquiry.specs.Histories.{Opened, with_table, Standing, after, asked, output_by, links, linked_recipe}
+use Rattle.asking.specs.Law.{Says, IsRight, HeldAfter, Written, Shown, Law}
+use Rattle.inquiry.proofs.Allowing.{trace_cases}
 use Rattle.asking.proofs.Anew.{linked_again, safe_again, facts_again}
 use Rattle.asking.proofs.Ending.{dig_ends}
-use Rattle.asking.proofs.Going.{record_grows, after_one, refused_rests, dug_pieces}
-use Rattle.asking.proofs.Judging.{said, says, bad_if_unsafe, unsafe_if_bad}
+use Rattle.inquiry.proofs.Going.{record_grows, after_one, refused_rests, dug_pieces}
+use Rattle.asking.proofs.Judging.{said, says, bad_if_unsafe, full_if_full, unsafe_if_bad}
 use Rattle.asking.proofs.Keeping.{keeps_linked, keeps}
 use Rattle.asking.proofs.Lasting.{bad_lasts}
 use Rattle.asking.proofs.Moving.{more_goes_bad, more_bad_trace, more_different}
 use Rattle.asking.proofs.Showing.{bad_walks, trace_written}
+use Rattle.asking.proofs.Working.{worked_told, stays_filled, dig_answered}
 
 module _ (C : Opened) (rs : List Request) where
   -- the standing then, and its setting: that of the linked recipe, with the edges of the table
@@ -52,19 +55,21 @@ module _ (C : Opened) (rs : List Request) where
   yields_now : (s x : Point) → Yields linked s x → Yields X s x
   yields_now s x y = link_laws.more_facts linked X.edges (keeps C rs).has y
 
-  -- safe: no run of the linked recipe goes bad
-  safe_means : Says C rs Safe → RunGoesBad linked → ⊥
-  safe_means e run = means.safe (said C rs Safe e) (more_goes_bad linked X.edges (keeps C rs).has run)
+  -- its verdict is right of the linked recipe
+  right : (v : Outcome) → Says C rs v → IsRight linked C.places v
+  right v e = let is : verdict_of C.watch now.search ≡ v = said C rs v e in record {
+    safe = λ safe run. means.safe (is ∙ safe) (more_goes_bad linked X.edges (keeps C rs).has run);
+    unsafe = λ unsafe. more_goes_bad X linked.edges (keeps C rs).counts (means.unsafe (is ∙ unsafe));
+    full = λ full. let more = (means.full (is ∙ full)).1 in (more.0, more.1, more_different X linked.edges (keeps C rs).counts more.0 more.2);
+  }
 
-  -- unsafe: one does
-  unsafe_means : Says C rs Unsafe → RunGoesBad linked
-  unsafe_means e = more_goes_bad X linked.edges (keeps C rs).counts (means.unsafe (said C rs Unsafe e))
-
-  -- full: every place is in use, and the linked recipe yields more facts
-  full_means : Says C rs Full → (length (facts_after C rs) ≡ C.places) × ((fs : List (Point × Point)) × (C.places < length fs) × Different linked fs)
-  full_means e =
-      let full = means.full (said C rs Full e) in
-      (length-map now.search.rows (λ r. (start_of r, end_of r)) ∙ full.0, (full.1.0, full.1.1, more_different X linked.edges (keeps C rs).counts full.1.0 full.1.2))
+  -- where its own edges are lawful all in use are
+  lawful : Lawful C.program C.own → C.edge_places ≤ 4096 → Lawful C.program now.edges
+  lawful law few =
+      let long = (keeps C rs).long in
+      let own = law.few_edges in
+      subst (Lawful C.program) ((keeps C rs).all (lawful_counted C.program C.own law))
+      (lawful_with C.program C.own now.edges law (⊎_elim (λ none. let n = ap length none in omega arith) (λ places. omega arith) (keeps C rs).room))
 
   -- it yields each fact that is held
   held_yielded : (i : ℕ) (s x : Point) → HeldAfter C rs s x i → Yields linked s x
@@ -95,13 +100,9 @@ module _ (C : Opened) (rs : List Request) where
   bad_shows bad = more_bad_trace X linked.edges (keeps C rs).counts (first_trace C.watch now.search.rows) (search_laws.shows X C.places now.search (keeps C rs).sound bad)
 
   -- a trace is refused for want of an unsafe verdict, or the verdict is unsafe
-  trace_wanting : (asked C rs Trace ≡ Err NotUnsafe) ⊎ Says C rs Unsafe
-  trace_wanting =
-      trace_cases C.watch now.search (length now.output) (λ o. (answered o (Traced (trace_length C.watch now.search)) ≡ Err NotUnsafe) ⊎ Says C rs Unsafe) (λ bad _ _ _. inr (bad_unsafe bad)) (λ bad _. inr (bad_unsafe bad)) (λ _. inl refl)
-
-  -- and then it is written, or it is too long
-  written_now : any_bad C.watch now.search.rows ≡ true → Written (first_trace C.watch now.search.rows) (asked C rs Trace) now.output (after C (rs ++ Trace ∷ [])).output
-  written_now bad = subst (λ (s : Standing). Written (first_trace C.watch now.search.rows) (asked C rs Trace) now.output s.output) (sym (after_one C rs Trace)) (trace_written C now bad)
+  trace_wanting : (room : ℕ) → (asked C rs (Trace room) ≡ Err NotUnsafe) ⊎ Says C rs Unsafe
+  trace_wanting room =
+      trace_cases C.watch now.search room (λ o. (answered o (Traced (trace_length C.watch now.search)) ≡ Err NotUnsafe) ⊎ Says C rs Unsafe) (λ bad _ _ _. inr (bad_unsafe bad)) (λ bad _. inr (bad_unsafe bad)) (λ _. inl refl)
 
 module _ (C : Opened) where
   -- after an unsafe verdict all are unsafe
@@ -121,27 +122,31 @@ module _ (C : Opened) where
       bad : (ss : List Request) → BadTrace (linked_recipe C (rs ++ ss)) t
       bad ss = subst (BadTrace (linked_recipe C (rs ++ ss))) (first ss) (bad_shows C (rs ++ ss) (bad_lasts C rs ss (unsafe_bad C rs e)).0)
 
-      written : (ss : List Request) → Written t (asked C (rs ++ ss) Trace) (after C (rs ++ ss)).output (after C (rs ++ ss ++ Trace ∷ [])).output
-      written ss = subst (λ ns. Written ns (asked C (rs ++ ss) Trace) (after C (rs ++ ss)).output (after C (rs ++ ss ++ Trace ∷ [])).output) (first ss) (written_now C (rs ++ ss) (bad_lasts C rs ss (unsafe_bad C rs e)).0)
+      written : (ss : List Request) (room : ℕ) (output : List ℕ) → Written t room (asked C (rs ++ ss) (Trace room)) output (output_by C (after C (rs ++ ss)) (Trace room) output)
+      written ss room output = subst (λ ns. Written ns room (asked C (rs ++ ss) (Trace room)) output (output_by C (after C (rs ++ ss)) (Trace room) output)) (first ss) (trace_written C (after C (rs ++ ss)) room output (bad_lasts C rs ss (unsafe_bad C rs e)).0)
 
   -- the whole law
   pub asking_law : Law C
   asking_law = record {
     recorded = record_grows C;
     table = λ rs. ((keeps C rs).counts, (keeps C rs).has);
+    lawful = lawful C;
     refused = refused_rests C;
     judging = λ rs. after_one C rs Verdict;
+    tracing = λ rs room. after_one C rs (Trace room);
     pieces = dug_pieces C;
-    linked = λ rs from to reply. keeps_linked C (links C rs) (after C rs) from to reply (keeps C rs);
-    safe = safe_means C;
-    unsafe = unsafe_means C;
+    dug = dig_answered C;
+    linked = λ rs from to. keeps_linked C (links C rs) (after C rs) from to (keeps C rs);
+    worked = worked_told C;
+    right = right C;
     bad_held = held_unsafe C;
     held_bad = unsafe_held C;
     lasting = unsafe_lasts;
     wanting = trace_wanting C;
     shown = unsafe_shows;
     ending = dig_ends C;
-    full = full_means C;
+    filled = stays_filled C;
+    full = λ rs e. full_if_full C.watch (after C rs).search (said C rs Full e);
     yielded = held_yielded C;
     once = λ rs. (told C rs).once;
     held = safe_held C;

@@ -7,14 +7,14 @@ use Rattle.model.specs.declared.Verdict.TheVariants.{Unfinished}
 use Rattle.model.specs.Tables.{pending}
 use Rattle.model.proofs.Verdicts.{search_laws}
 use Rattle.inquiry.specs.Calls.{answered, unless}
-use Rattle.asking.specs.declared.requests.Request.{Request}
-use Rattle.asking.specs.declared.requests.Request.TheVariants.{Dig, Link, Verdict, Trace}
-use Rattle.asking.specs.declared.requests.Reply.TheVariants.{Linked}
-use Rattle.asking.specs.Histories.{Opened, with_table, Standing, begun, may_link, may_trace, answer, step, after_from, replies_from, accepted_one, accepted, after, links}
+use Rattle.inquiry.specs.declared.requests.Request.{Request}
+use Rattle.inquiry.specs.declared.requests.Request.TheVariants.{Dig, Link, Verdict, Trace}
+use Rattle.inquiry.specs.declared.requests.Reply.TheVariants.{Linked}
+use Rattle.inquiry.specs.Histories.{Opened, with_table, Standing, begun, may_link, answer, step, after_from, replies_from, accepted_one, accepted, after, links}
 use Rattle.asking.specs.Law.{Says}
 use Rattle.inquiry.proofs.Allowed.{by_allowed}
-use Rattle.asking.proofs.Allowing.{linked_at, traced_at}
-use Rattle.asking.proofs.Going.{after_more, accepted_more}
+use Rattle.inquiry.proofs.Allowing.{linked_at}
+use Rattle.inquiry.proofs.Going.{after_more, accepted_more}
 use Rattle.asking.proofs.Judging.{pending_if_unfinished, said}
 use Rattle.asking.proofs.Keeping.{keeps}
 
@@ -32,8 +32,7 @@ module _ (C : Opened) where
   step_rests s (Link from to) rest none =
       by_allowed (λ o. accepted_one (Link from to) (answered o (Linked (length s.edges + 1))) ≡ [] → pending (unless o (linked_at C s (record { from = from; to = to })) s).search ≡ false) (may_link C s from to) (λ one. absurd (let n = ap length one in omega arith)) (λ why _. rest) none
   step_rests s Verdict rest none = rest
-  step_rests s Trace rest none =
-      by_allowed (λ o. pending (unless o (traced_at C s) s).search ≡ false) (may_trace C s) rest (λ why. rest)
+  step_rests s (Trace room) rest none = rest
 
   -- and the same of many
   from_rests : (s : Standing) (rs : List Request) → pending s.search ≡ false → accepted rs (replies_from C s rs) ≡ [] → pending (after_from C s rs).search ≡ false

@@ -6,9 +6,9 @@ use Rattle.model.specs.declared.Verdict.TheVariants.{Safe, Unsafe, Full, Unfinis
 use Rattle.model.specs.Searches.{Through}
 use Rattle.model.specs.Tables.{Search, pending, any_bad, verdict_of}
 use Rattle.model.specs.Watches.{Watch}
-use Rattle.asking.specs.declared.requests.Request.{Request}
-use Rattle.asking.specs.declared.requests.Reply.TheVariants.{Judged}
-use Rattle.asking.specs.Histories.{Opened, after}
+use Rattle.inquiry.specs.declared.requests.Request.{Request}
+use Rattle.inquiry.specs.declared.requests.Reply.TheVariants.{Judged}
+use Rattle.inquiry.specs.Histories.{Opened, after}
 use Rattle.asking.specs.Law.{Says}
 
 module _ (W : Watch) (s : Search) where
@@ -29,6 +29,9 @@ module _ (W : Watch) (s : Search) where
 
   pub pending_if_unfinished : verdict_of W s ≡ Unfinished → pending s ≡ true
   pending_if_unfinished = verdict_cases (λ v. v ≡ Unfinished → pending s ≡ true) (λ _ e. cc) (λ _ e. cc) (λ _ _ e. cc) (λ left _. left)
+
+  pub full_if_full : verdict_of W s ≡ Full → s.full ≡ true
+  full_if_full = verdict_cases (λ v. v ≡ Full → s.full ≡ true) (λ _ e. cc) (λ past _. past) (λ _ _ e. cc) (λ _ e. cc)
 
   -- a bad fact makes it unsafe
   pub unsafe_if_bad : any_bad W s.rows ≡ true → verdict_of W s ≡ Unsafe

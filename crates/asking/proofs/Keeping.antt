@@ -1,29 +1,30 @@
 -- What each request keeps: the search is sound, and the edge table is that of the opening with the accepted links.
-use Rattle.std.proofs.Common.{◌≡◌, ℕ, ◌+◌, ◌<◌, ◌≤◌, Bool, true, false, ◌&&◌, eqb, ◌⊎◌, List, [], ◌∷◌, ◌++◌, length, Ok, sym, refl, ◌∙◌, subst, inl, inr, ⊎_elim, arith, append_assoc, append-nil, ap, IsPermutation, Contains}
+use Rattle.std.proofs.Common.{◌≡◌, ℕ, ◌+◌, ◌<◌, ◌≤◌, Bool, true, false, ◌&&◌, eqb, ◌⊎◌, List, [], ◌∷◌, ◌++◌, length, Ok, Err, sym, refl, ◌∙◌, subst, inl, inr, ⊎_elim, arith, append_assoc, append-nil, ap, IsPermutation, Contains}
 use Rattle.std.specs.Cmp.{IsEquivalence}
 use Rattle.std.specs.List.{IsDistinct}
-use Rattle.std.proofs.lemmas.Bool.{false_from_ne_true}
+use Rattle.std.proofs.lemmas.Bool.{both_ways, false_from_ne_true}
 use Rattle.std.proofs.lemmas.Bool.Decides.{nat_tests, not_from_Decides}
 use Rattle.std.proofs.lemmas.List.{length_push, nil_from_length}
 use Rattle.std.proofs.lemmas.List.Sorted.{IsPermutation-sym, IsPermutation-append_right, length_permutation, Contains-permutation}
 use Rattle.std.proofs.lemmas.Map.Keys.{IsDistinct-push, IsDistinct-IsPermutation}
 use Rattle.std.proofs.lemmas.List.Elements.{Contains-append_left, Contains-append_right, Contains-push, Contains-push_cases}
 use Rattle.model.specs.declared.Edge.{Edge}
+use Rattle.recipe.specs.declared.grounds.Refusal.TheVariants.{NotAnEdge, EdgeHeld, EdgesFull, InquiryFull}
 use Rattle.model.specs.Links.{Among, is_listed, linked}
 use Rattle.model.specs.Program.{EdgeRules, is_edge, counted, Leads}
 use Rattle.model.specs.Searches.{Sound}
-use Rattle.model.proofs.Edges.{edge_rules}
+use Rattle.model.proofs.Edges.{edge_passes, edge_rules}
 use Rattle.model.proofs.Links.{link_laws}
 use Rattle.model.proofs.Verdicts.{search_laws}
 use Rattle.walker.proofs.Walks.{leads_decides}
 use Rattle.inquiry.specs.Calls.{answered, unless}
-use Rattle.asking.specs.declared.requests.Request.{Request}
-use Rattle.asking.specs.declared.requests.Request.TheVariants.{Dig, Link, Verdict, Trace}
-use Rattle.asking.specs.declared.requests.Reply.{Reply}
-use Rattle.asking.specs.declared.requests.Reply.TheVariants.{Linked}
-use Rattle.asking.specs.Histories.{Opened, with_table, Standing, begun, may_trace, dug_at, answer, step, after_from, replies_from, accepted_one, accepted, after, links}
-use Rattle.inquiry.proofs.Allowed.{by_allowed}
-use Rattle.asking.proofs.Allowing.{linked_at, traced_at, link_cases}
+use Rattle.inquiry.specs.declared.requests.Request.{Request}
+use Rattle.inquiry.specs.declared.requests.Request.TheVariants.{Dig, Link, Verdict, Trace}
+use Rattle.inquiry.specs.declared.requests.Reply.{Reply}
+use Rattle.inquiry.specs.declared.requests.Reply.TheVariants.{Linked}
+use Rattle.inquiry.specs.Histories.{Opened, with_table, Standing, begun, dug_at, answer, step, after_from, replies_from, accepted_one, accepted, after, links}
+use Rattle.asking.specs.Law.{LinkAnswer}
+use Rattle.inquiry.proofs.Allowing.{linked_at, link_cases, link_passes, link_grounds}
 
 -- one edge is another, as a test
 abbrev pub same_edge : Edge → Edge → Bool
@@ -40,6 +41,8 @@ pub record Keeps (C : Opened) (ls : List Edge) (s : Standing) : Type 0 where
   -- those are the ones that counted at the opening, and the accepted links
   pub counts : Among (counted C.program s.edges) (counted C.program C.own ++ ls)
   pub has : Among (counted C.program C.own ++ ls) (counted C.program s.edges)
+  -- all of the table count, if all did at the opening
+  pub all : counted C.program C.own ≡ C.own → counted C.program s.edges ≡ s.edges
   -- the table has one edge more for each link, and they have places
   pub long : length s.edges ≡ length C.own + length ls
   pub room : (ls ≡ []) ⊎ (length C.own + length ls ≤ C.edge_places)
@@ -56,6 +59,7 @@ module _ (C : Opened) where
     sound = search_laws.opens (with_table C C.own) C.places;
     counts = λ e h. Contains-append_left (counted C.program C.own) [] e h;
     has = λ e h. subst (λ es. Contains es e) (append-nil (counted C.program C.own)) h;
+    all = λ whole. whole;
     long = omega arith;
     room = inl refl;
     right = λ e h. absurd (omega (arith, h.1));
@@ -109,6 +113,7 @@ module _ (C : Opened) where
           sound = search_laws.links (with_table C s.edges) later C.places s.search h.sound free (link_laws.counts_old C.program s.edges e right fresh);
           counts = link_counts;
           has = link_has;
+          all = λ whole. link_laws.all_count C.program s.edges e right fresh (h.all whole);
           long = omega arith;
           room = inr (omega arith);
           right = λ d had. ⊎_elim (h.right d) (λ same. subst (λ f. is_edge C.program f ≡ true) same right) (Contains-push_cases ls e d had);
@@ -119,28 +124,47 @@ module _ (C : Opened) where
   -- with any request, and the link that it was if it was accepted
   pub keeps_step : (ls : List Edge) (s : Standing) (r : Request) → Keeps C ls s → Keeps C (ls ++ accepted_one r (answer C s r)) (step C s r)
   keeps_step ls s (Dig allowed) h =
-      let t : Standing = record { edges = s.edges; search = dug_at C s allowed; output = s.output } in
+      let t : Standing = record { edges = s.edges; search = dug_at C s allowed } in
       subst (λ es. Keeps C es t) (sym (append-nil ls))
-      (record { sound = search_laws.digs (with_table C s.edges) C.places allowed s.search h.sound; counts = h.counts; has = h.has; long = h.long; room = h.room; right = h.right; new = h.new; apart = h.apart })
+      (record { sound = search_laws.digs (with_table C s.edges) C.places allowed s.search h.sound; counts = h.counts; has = h.has; all = h.all; long = h.long; room = h.room; right = h.right; new = h.new; apart = h.apart })
   keeps_step ls s (Link from to) h =
       let e : Edge = record { from = from; to = to } in
       link_cases C.program s.edges C.edge_places s.search.full e (λ o. Keeps C (ls ++ accepted_one (Link from to) (answered o (Linked (length s.edges + 1)))) (unless o (linked_at C s e) s))
       (λ right new space free. keeps_link ls s e h right new space free) (λ why. subst (λ es. Keeps C es s) (sym (append-nil ls)) h)
   keeps_step ls s Verdict h = subst (λ es. Keeps C es s) (sym (append-nil ls)) h
-  keeps_step ls s Trace h =
-      subst (λ es. Keeps C es (step C s Trace)) (sym (append-nil ls))
-      (by_allowed (λ o. Keeps C ls (unless o (traced_at C s) s)) (may_trace C s)
-      (record { sound = h.sound; counts = h.counts; has = h.has; long = h.long; room = h.room; right = h.right; new = h.new; apart = h.apart }) (λ why. h))
+  keeps_step ls s (Trace room) h = subst (λ es. Keeps C es s) (sym (append-nil ls)) h
 
-  -- a link that is accepted is an edge by the rules, none of those that count, and is answered with how many edges there are then
-  pub keeps_linked : (ls : List Edge) (s : Standing) (from to : ℕ) (reply : Reply) → Keeps C ls s → answer C s (Link from to) ≡ Ok reply
-      → EdgeRules C.program (record { from = from; to = to }) × (Leads (counted C.program C.own ++ ls) from to → ⊥) × (reply ≡ Linked (length C.own + length ls + 1))
-  keeps_linked ls s from to reply h =
-      let e : Edge = record { from = from; to = to } in
-      link_cases C.program s.edges C.edge_places s.search.full e
-      (λ o. answered o (Linked (length s.edges + 1)) ≡ Ok reply → EdgeRules C.program e × (Leads (counted C.program C.own ++ ls) from to → ⊥) × (reply ≡ Linked (length C.own + length ls + 1)))
-      (λ right new _ _ is. let told : reply ≡ Linked (length s.edges + 1) = cc in (edge_rules C.program e right, link_other ls s e h right new, told ∙ ap (λ n. Linked (n + 1)) h.long))
-      (λ why is. absurd (let z : ◌≡◌ {A = ℕ} 0 1 = cc in omega arith))
+  -- what a link is answered: accepted where no ground for a refusal holds, and else refused with one that does
+  pub keeps_linked : (ls : List Edge) (s : Standing) (from to : ℕ) → Keeps C ls s → LinkAnswer C.program (counted C.program C.own ++ ls) (length C.own + length ls) C.edge_places s.search.full from to (answer C s (Link from to))
+  keeps_linked ls s from to h = record {
+    accepts = λ rules new room free. ap (λ o. answered o (Linked (length s.edges + 1))) (link_passes C.program s.edges C.edge_places s.search.full e (edge_passes C.program e rules) (unlisted new) (let n = h.long in omega arith) free) ∙ ap (λ n. Ok (Linked (n + 1))) h.long;
+    accepted = λ reply.
+        link_cases C.program s.edges C.edge_places s.search.full e
+        (λ o. answered o (Linked (length s.edges + 1)) ≡ Ok reply → EdgeRules C.program e × (Leads (own ++ ls) from to → ⊥) × (length C.own + length ls < C.edge_places) × (s.search.full ≡ false) × (reply ≡ Linked (length C.own + length ls + 1)))
+        (λ right new room free is.
+        let told : reply ≡ Linked (length s.edges + 1) = cc in
+        (edge_rules C.program e right, link_other ls s e h right new, (let n = h.long in omega arith), free, told ∙ ap (λ n. Linked (n + 1)) h.long))
+        (λ why is. absurd (let z : ◌≡◌ {A = ℕ} 0 1 = cc in omega arith));
+    no_edge = λ is rules. both_ways (is_edge C.program e) (grounds.0 is) (edge_passes C.program e rules);
+    held = λ is. h.counts e ((leads_decides (counted C.program s.edges) from to).0 (grounds.1 is));
+    no_place = λ is. let n = h.long in let m = grounds.2 is in omega arith;
+    full_up = grounds.3;
+  }
+    where
+      e : Edge
+      e = record { from = from; to = to }
+
+      own : List Edge
+      own = counted C.program C.own
+
+      -- what is none of the linked recipe's edges is none of those that count
+      unlisted : (Leads (own ++ ls) from to → ⊥) → is_listed (counted C.program s.edges) e ≡ false
+      unlisted new = false_from_ne_true (is_listed (counted C.program s.edges) e) (λ listed. new (h.counts e ((leads_decides (counted C.program s.edges) from to).0 listed)))
+
+      -- the ground of each refusal
+      grounds : (answer C s (Link from to) ≡ Err NotAnEdge → is_edge C.program e ≡ false) × (answer C s (Link from to) ≡ Err EdgeHeld → is_listed (counted C.program s.edges) e ≡ true)
+          × (answer C s (Link from to) ≡ Err EdgesFull → C.edge_places ≤ length s.edges) × (answer C s (Link from to) ≡ Err InquiryFull → s.search.full ≡ true)
+      grounds = link_grounds C.program s.edges C.edge_places s.search.full e (Linked (length s.edges + 1))
 
   -- with any requests from there on
   keeps_from : (ls : List Edge) (s : Standing) (rs : List Request) → Keeps C ls s → Keeps C (ls ++ accepted rs (replies_from C s rs)) (after_from C s rs)
@@ -165,6 +189,7 @@ module _ (C : Opened) where
         sound = h.sound;
         counts = λ d had. Contains-permutation (own ++ ls) (own ++ ms) d (IsPermutation-append_right own ls ms p) (h.counts d had);
         has = λ d had. h.has d (Contains-permutation (own ++ ms) (own ++ ls) d (IsPermutation-append_right own ms ls back) had);
+        all = h.all;
         long = omega arith;
         room = ⊎_elim (λ none. inl (let n = ap length none in nil_from_length ms (omega arith))) (λ space. inr (omega arith)) h.room;
         right = λ d had. h.right d (Contains-permutation ms ls d back had);

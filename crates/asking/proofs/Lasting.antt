@@ -5,12 +5,12 @@ use Rattle.model.specs.Searches.{first_trace}
 use Rattle.model.specs.Tables.{any_bad}
 use Rattle.model.proofs.Verdicts.{search_laws}
 use Rattle.inquiry.specs.Calls.{unless}
-use Rattle.asking.specs.declared.requests.Request.{Request}
-use Rattle.asking.specs.declared.requests.Request.TheVariants.{Dig, Link, Verdict, Trace}
-use Rattle.asking.specs.Histories.{Opened, with_table, Standing, begun, may_link, may_trace, step, after_from, after}
+use Rattle.inquiry.specs.declared.requests.Request.{Request}
+use Rattle.inquiry.specs.declared.requests.Request.TheVariants.{Dig, Link, Verdict, Trace}
+use Rattle.inquiry.specs.Histories.{Opened, with_table, Standing, begun, may_link, step, after_from, after}
 use Rattle.inquiry.proofs.Allowed.{by_allowed}
-use Rattle.asking.proofs.Allowing.{linked_at, traced_at}
-use Rattle.asking.proofs.Going.{after_more}
+use Rattle.inquiry.proofs.Allowing.{linked_at}
+use Rattle.inquiry.proofs.Going.{after_more}
 
 -- the rows of one standing are those of another, with more behind them
 abbrev Grown : Standing → Standing → Type 0
@@ -27,8 +27,7 @@ module _ (C : Opened) where
   step_grows s (Link from to) =
       by_allowed (λ o. Grown s (unless o (linked_at C s (record { from = from; to = to })) s)) (may_link C s from to) (same_grown s) (λ why. same_grown s)
   step_grows s Verdict = same_grown s
-  step_grows s Trace =
-      by_allowed (λ o. Grown s (unless o (traced_at C s) s)) (may_trace C s) (same_grown s) (λ why. same_grown s)
+  step_grows s (Trace room) = same_grown s
 
   -- and so do many
   from_grows : (s : Standing) (rs : List Request) → Grown s (after_from C s rs)

@@ -1,6 +1,7 @@
 pub mod Anew
 pub mod Carrying
 pub mod Clauses
+pub mod Ended
 pub mod Ending
 pub mod Judging
 pub mod Keeping
@@ -10,3 +11,4 @@ pub mod Modelling
 pub mod Moving
 pub mod Showing
 pub mod Telling
+pub mod Working

@@ -11,12 +11,12 @@ use Rattle.walker.specs.declared.stands.Stand.{Stand}
 use Rattle.walker.specs.Accepted.{Stands, Refuses}
 use Rattle.walker.specs.Walking.{replayed}
 use Rattle.walker.proofs.Walks.{told, accepts}
-use Rattle.inquiry.specs.Calls.{answered, unless, trace_length}
-use Rattle.asking.specs.declared.requests.Request.TheVariants.{Trace}
-use Rattle.asking.specs.declared.requests.Reply.TheVariants.{Traced}
-use Rattle.asking.specs.Histories.{Opened, Standing, answer, step}
+use Rattle.inquiry.specs.Calls.{answered, unless, trace_length, trace_output}
+use Rattle.inquiry.specs.declared.requests.Request.TheVariants.{Trace}
+use Rattle.inquiry.specs.declared.requests.Reply.TheVariants.{Traced}
+use Rattle.inquiry.specs.Histories.{Opened, Standing, answer, output_by}
 use Rattle.asking.specs.Law.{Walks, Written}
-use Rattle.asking.proofs.Allowing.{traced_at, trace_cases}
+use Rattle.inquiry.proofs.Allowing.{trace_cases}
 use Rattle.asking.proofs.Moving.{more_bad_trace}
 
 -- a walk that is accepted along the trace of a bad run stands bad
@@ -34,7 +34,7 @@ bad_walks X t run es stack fewer more enough =
     (told X.program es X.rule X.watch t stack) ((accepts X.program es X.rule X.watch t stack enough).1 (moved.0, moved.1, moved.2))
 
 -- where a row is bad the trace of the first one is written, or it is too long
-pub trace_written : (C : Opened) (s : Standing) → any_bad C.watch s.search.rows ≡ true → Written (first_trace C.watch s.search.rows) (answer C s Trace) s.output (step C s Trace).output
-trace_written C s bad =
-    trace_cases C.watch s.search (length s.output) (λ o. Written (first_trace C.watch s.search.rows) (answered o (Traced (trace_length C.watch s.search))) s.output (unless o (traced_at C s) s).output)
+pub trace_written : (C : Opened) (s : Standing) (room : ℕ) (output : List ℕ) → any_bad C.watch s.search.rows ≡ true → Written (first_trace C.watch s.search.rows) room (answer C s (Trace room)) output (output_by C s (Trace room) output)
+trace_written C s room output bad =
+    trace_cases C.watch s.search room (λ o. Written (first_trace C.watch s.search.rows) room (answered o (Traced (trace_length C.watch s.search))) output (unless o (trace_output C.watch s.search output) output))
     (λ _ low below same. inl (ap (λ n. Ok (Traced n)) same, low, below, refl)) (λ _ over. inr (refl, over, refl)) (λ good. absurd (both_ways (any_bad C.watch s.search.rows) good bad))

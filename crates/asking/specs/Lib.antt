@@ -1,5 +1,4 @@
 pub mod Asked
-pub mod Histories
 pub mod Law
 pub mod Made
 pub mod Modelled

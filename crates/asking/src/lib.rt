@@ -3,8 +3,7 @@
 
 mod asking;
 mod modelled;
-mod requests;
 
 pub use asking::ask;
+pub use inquiry::{Reply, Request};
 pub use modelled::ask_modelled;
-pub use requests::{Reply, Request};

@@ -1,6 +1,6 @@
 -- When a link and a trace are allowed, and where they lead: the cases of their answers, each with what led to it.
 use Rattle.std.proofs.Common.{◌≡◌, ℕ, ◌<◌, ◌≤◌, Bool, true, false, cond, ◌&&◌, ltb, leb, ◌⊎◌, List, length, Ok, Err, ◌∙◌, inl, inr, arith}
-use Rattle.std.proofs.lemmas.Bool.{cond-true, cond-false, cond_both, lt-ltb, ltb-true, leb-true, and_parts, and_from, both_ways, le-leb, cases_lt}
+use Rattle.std.proofs.lemmas.Bool.{cond-true, cond-false, cond_both, lt-ltb, ltb-true, ltb-false, leb-true, and_parts, and_from, both_ways, le-leb, cases_lt}
 use Rattle.model.specs.declared.Edge.{Edge}
 use Rattle.model.specs.Links.{is_listed, linked}
 use Rattle.model.specs.Program.{Program, is_edge, counted}
@@ -9,7 +9,7 @@ use Rattle.model.specs.Tables.{capped, Search, any_bad}
 use Rattle.model.specs.Watches.{Watch}
 use Rattle.recipe.specs.declared.grounds.Refusal.{Refusal}
 use Rattle.recipe.specs.declared.grounds.Refusal.TheVariants.{NotAnEdge, EdgeHeld, EdgesFull, InquiryFull, NotUnsafe, LongTrace}
-use Rattle.inquiry.specs.Calls.{Allowed, link_allowed, trace_length, trace_allowed}
+use Rattle.inquiry.specs.Calls.{Allowed, answered, link_allowed, trace_length, trace_allowed}
 use Rattle.inquiry.specs.Histories.{Opened, Standing}
 
 -- the standing with an accepted link
@@ -33,6 +33,29 @@ module _ (p : Program) (used : List Edge) (places : ℕ) (full : Bool) (e : Edge
       ∙ cond-false (is_listed (counted p used) e) (Err EdgeHeld) (cond (ltb (length used) places) (cond full (Err InquiryFull) (Ok tt)) (Err EdgesFull)) new
       ∙ cond-true (ltb (length used) places) (cond full (Err InquiryFull) (Ok tt)) (Err EdgesFull) (lt-ltb (length used) places room)
       ∙ cond-false full (Err InquiryFull) (Ok tt) free
+
+  -- each refusal has its ground
+  pub link_grounds : {A : Type 0} (a : A) → (answered (link_allowed p used places full e) a ≡ Err NotAnEdge → is_edge p e ≡ false) × (answered (link_allowed p used places full e) a ≡ Err EdgeHeld → is_listed (counted p used) e ≡ true)
+      × (answered (link_allowed p used places full e) a ≡ Err EdgesFull → places ≤ length used) × (answered (link_allowed p used places full e) a ≡ Err InquiryFull → full ≡ true)
+  link_grounds a =
+      cond_both (is_edge p e) _ (Err NotAnEdge) P
+      (λ right. cond_both (is_listed (counted p used) e) (Err EdgeHeld) _ P (λ old. ((λ h. cc), (λ _. old), (λ h. absurd (let z : ◌≡◌ {A = ℕ} 0 1 = cc in omega arith)), (λ h. cc)))
+      (λ new. cond_both (ltb (length used) places) _ (Err EdgesFull) P
+      (λ room. cond_both full (Err InquiryFull) (Ok tt) P (λ past. ((λ h. cc), (λ h. cc), (λ h. absurd (let z : ◌≡◌ {A = ℕ} 0 1 = cc in omega arith)), (λ _. past))) (λ free. ((λ h. cc), (λ h. cc), (λ h. absurd (let z : ◌≡◌ {A = ℕ} 0 1 = cc in omega arith)), (λ h. cc))))
+      (λ none. ((λ h. cc), (λ h. cc), (λ _. ltb-false (length used) places none), (λ h. cc)))))
+      (λ wrong. ((λ _. wrong), (λ h. cc), (λ h. absurd (let z : ◌≡◌ {A = ℕ} 0 1 = cc in omega arith)), (λ h. cc)))
+    where
+      P : Allowed → Type 0
+      P o = (answered o a ≡ Err NotAnEdge → is_edge p e ≡ false) × (answered o a ≡ Err EdgeHeld → is_listed (counted p used) e ≡ true) × (answered o a ≡ Err EdgesFull → places ≤ length used) × (answered o a ≡ Err InquiryFull → full ≡ true)
+
+  -- and none is that of a trace
+  pub link_not_long : {A : Type 0} (a : A) (n : ℕ) → answered (link_allowed p used places full e) a ≡ Err (LongTrace n) → ⊥
+  link_not_long a n =
+      cond_both (is_edge p e) _ (Err NotAnEdge) (λ o. answered o a ≡ Err (LongTrace n) → ⊥)
+      (λ right. cond_both (is_listed (counted p used) e) (Err EdgeHeld) _ (λ o. answered o a ≡ Err (LongTrace n) → ⊥) (λ old. (λ h. absurd (let z : ◌≡◌ {A = ℕ} 0 1 = cc in omega arith)))
+      (λ new. cond_both (ltb (length used) places) _ (Err EdgesFull) (λ o. answered o a ≡ Err (LongTrace n) → ⊥)
+      (λ room. cond_both full (Err InquiryFull) (Ok tt) (λ o. answered o a ≡ Err (LongTrace n) → ⊥) (λ past. (λ h. absurd (let z : ◌≡◌ {A = ℕ} 0 1 = cc in omega arith))) (λ free. (λ h. absurd (let z : ◌≡◌ {A = ℕ} 0 1 = cc in omega arith)))) (λ none. (λ h. absurd (let z : ◌≡◌ {A = ℕ} 0 1 = cc in omega arith)))))
+      (λ wrong. (λ h. absurd (let z : ◌≡◌ {A = ℕ} 0 1 = cc in omega arith)))
 
 module _ (W : Watch) (s : Search) (room : ℕ) where
   -- the trace that is asked for
