@@ -12,11 +12,11 @@ use Rattle.model.specs.Agreement.{RunTrace}
 use Rattle.model.specs.Program.{Program, node_at, is_return}
 use Rattle.model.specs.Runs.{Run, start, pass, enter, back, reads, Leads, goes_on, is_call}
 use Rattle.model.specs.Watches.{Watch}
-use Rattle.model.proofs.Determined.{follows_from_trace}
+use Rattle.model.proofs.Determined.{follows_from_trace, run_state}
 use Rattle.recipe.specs.declared.grounds.Refusal.{Refusal}
-use Rattle.recipe.specs.declared.grounds.Refusal.TheVariants.{Misplaced, Miscounted, BadMethod, BadNode, BadEdge, BadRow, TooMany, OtherCounts, UnfitTable, NotAnEdge, EdgeHeld, EdgesFull, InquiryFull, NotUnsafe, LongTrace, NotAStep, StackFull, ShortOutput}
+use Rattle.recipe.specs.declared.grounds.Refusal.TheVariants.{NotAStep, StackFull}
 use Rattle.walker.specs.declared.stands.Stand.{Stand}
-use Rattle.walker.specs.Accepted.{frames_in, Stands, StandsAt, Refuses, Enough}
+use Rattle.walker.specs.Accepted.{frames_in, Stands, StandsAt, HoldsRun, Refuses, Enough}
 use Rattle.walker.specs.Walking.{no_frame, leads, step_by, step_from, step_first, step_answer, step_stack, stand_at, placed, Walked, advance_by, replay_from, first_walked, replayed}
 
 -- the test for an edge says what it should
@@ -216,25 +216,27 @@ module _ (p : Program) (es : List Edge) (R : Rule) (W : Watch) where
     cut_after : take (place + 1) ns ≡ front ++ m ∷ []
     cut_after = ap (take (place + 1)) (sym split ∙ sym (append_assoc front (m ∷ []) ms)) ∙ take_at (front ++ m ∷ []) ms (place + 1) (length_push front m ∙ ap (λ k. k + 1) long)
 
-    after : (stack : List Frame) (d q : ℕ) → d ≤ length stack → (0 < place → RunTrace p es R W front) → (o : Option (ℕ × Frame)) → Goes stack d (reverse front) q m o
-        → MatchResult (step_answer p W o (length stack) q m place) (Stands p es R W (front ++ m ∷ []) (step_stack o stack)) (Refuses p es R W ns (length stack))
+    after : (stack : List Frame) (d q : ℕ) → d ≤ length stack → (0 < place → HoldsRun p es R W front stack) → (o : Option (ℕ × Frame)) → Goes stack d (reverse front) q m o
+        → MatchResult (step_answer p W o (length stack) q m place) (Stands p es R W (front ++ m ∷ []) (step_stack o stack)) (Refuses p es R W ns (step_stack o stack))
     after stack d q high so_far None h = (
-      λ l. subst (RunTrace p es R W) (sym cut_before) (so_far l),
+      λ l. subst (λ t. HoldsRun p es R W t stack) (sym cut_before) (so_far l),
       λ r. h r.0 r.1 (subst (λ t. Run p es R W t r.0 r.1) (ap reverse cut_after ∙ reverse_push front m) r.2),
     )
     after stack d q high so_far (Some s) h = by (leb s.0 (length stack)) refl
       where
         by : (b : Bool) → leb s.0 (length stack) ≡ b
-            → MatchResult (cond b (Ok (stand_at W s.0 s.1 (W.step q (reads p m)))) (Err (StackFull place))) (Stands p es R W (front ++ m ∷ []) (cond b (set stack (s.0 - 1) s.1) stack)) (Refuses p es R W ns (length stack))
+            → MatchResult (cond b (Ok (stand_at W s.0 s.1 (W.step q (reads p m)))) (Err (StackFull place))) (Stands p es R W (front ++ m ∷ []) (cond b (set stack (s.0 - 1) s.1) stack)) (Refuses p es R W ns (cond b (set stack (s.0 - 1) s.1) stack))
         by true e =
             let low : 1 ≤ s.0 = h.0 in
             let l = leb-true s.0 (length stack) e in
             let k : s.0 - 1 < length stack = omega arith in
+            let run : Run p es R W (reverse (front ++ m ∷ [])) (frames_in (set stack (s.0 - 1) s.1) s.0) (W.step q (reads p m)) = subst (λ t. Run p es R W t (frames_in (set stack (s.0 - 1) s.1) s.0) (W.step q (reads p m))) (sym (reverse_push front m))
+                (subst (λ fs. Run p es R W (m ∷ reverse front) fs (W.step q (reads p m))) (sym (frames_set stack s.0 s.1 h.0 l)) h.2) in
             record {
-              run = subst (λ t. Run p es R W t (frames_in (set stack (s.0 - 1) s.1) s.0) (W.step q (reads p m))) (sym (reverse_push front m))
-                  (subst (λ fs. Run p es R W (m ∷ reverse front) fs (W.step q (reads p m))) (sym (frames_set stack s.0 s.1 h.0 l)) h.2);
+              run = run;
               deep = subst (λ j. s.0 ≤ j) (sym (length-set stack (s.0 - 1) s.1)) l;
               top = ap (λ f. f.value) (sym (get_or-set_same stack (s.0 - 1) s.1 no_frame k));
+              state = sym (run_state p es R W run);
               bad = refl;
             }
         by false e =
@@ -244,47 +246,55 @@ module _ (p : Program) (es : List Edge) (R : Rule) (W : Watch) where
             let k = frames_length stack (s.0 - 1) (omega arith) in
             let n = ap length (sym split) ∙ length-append front (m ∷ ms) in (
               omega arith,
+              λ l. subst (λ t. HoldsRun p es R W t stack) (sym cut_before) (so_far l),
               s.1 ∷ frames_in stack (s.0 - 1),
               W.step q (reads p m),
               subst (λ t. Run p es R W t (s.1 ∷ frames_in stack (s.0 - 1)) (W.step q (reads p m))) (sym (ap reverse cut_after ∙ reverse_push front m)) h.2,
               omega arith,
             )
 
-    advance : (a : Result Stand Refusal) (stack : List Frame) → MatchResult a (Stands p es R W front stack) (Refuses p es R W ns (length stack))
-        → MatchResult (advance_by p es R W a stack m place).at (Stands p es R W (front ++ m ∷ []) (advance_by p es R W a stack m place).stack) (Refuses p es R W ns (length stack))
+    advance : (a : Result Stand Refusal) (stack : List Frame) → MatchResult a (Stands p es R W front stack) (Refuses p es R W ns stack)
+        → MatchResult (advance_by p es R W a stack m place).at (Stands p es R W (front ++ m ∷ []) (advance_by p es R W a stack m place).stack) (Refuses p es R W ns (advance_by p es R W a stack m place).stack)
     advance (Ok s) stack h =
         let high : s.depth ≤ length stack = h.deep in
         let some = run_deep h.run in
         let k = frames_length stack s.depth high in
-        after stack s.depth s.state high (λ _. (frames_in stack s.depth, s.state, h.run)) (step_from p es R stack s.depth m)
+        after stack s.depth s.state high (λ _. (s.depth, s.state, (h.run, high))) (step_from p es R stack s.depth m)
         (step_goes stack s.depth (omega arith) high (reverse front) s.state h.run m)
     advance (Err e) stack h = h
 
-  -- a step keeps the stack's length
-  stack_kept : (o : Option (ℕ × Frame)) (stack : List Frame) → length (step_stack o stack) ≡ length stack
-  stack_kept None stack = refl
-  stack_kept (Some s) stack = cond_both (leb s.0 (length stack)) (set stack (s.0 - 1) s.1) stack (λ x. length x ≡ length stack) (λ _. length-set stack (s.0 - 1) s.1) (λ _. refl)
-
-  advance_kept : (a : Result Stand Refusal) (stack : List Frame) (m place : ℕ) → length (advance_by p es R W a stack m place).stack ≡ length stack
-  advance_kept (Ok s) stack m place = stack_kept (step_from p es R stack s.depth m) stack
-  advance_kept (Err e) stack m place = refl
-
   -- the rest of a list, after a front of it
-  rest_told : (ms ns front : List ℕ) (place : ℕ) (w : Walked) (room : ℕ) → front ++ ms ≡ ns → length front ≡ place → length w.stack ≡ room → MatchResult w.at (Stands p es R W front w.stack) (Refuses p es R W ns room)
-      → MatchResult (replay_from p es R W ms place w).at (Stands p es R W ns (replay_from p es R W ms place w).stack) (Refuses p es R W ns room)
+  rest_told : (ms ns front : List ℕ) (place : ℕ) (w : Walked) → front ++ ms ≡ ns → length front ≡ place → MatchResult w.at (Stands p es R W front w.stack) (Refuses p es R W ns w.stack)
+      → MatchResult (replay_from p es R W ms place w).at (Stands p es R W ns (replay_from p es R W ms place w).stack) (Refuses p es R W ns (replay_from p es R W ms place w).stack)
   unfolding replay_from
-  rest_told [] ns front place w room split long same h = subst (λ f. MatchResult w.at (Stands p es R W f w.stack) (Refuses p es R W ns room)) (sym (append-nil front) ∙ split) h
-  rest_told (m ∷ ms) ns front place w room split long same h =
-      let v = advance_by p es R W w.at w.stack m place in
-      rest_told ms ns (front ++ m ∷ []) (place + 1) v room (append_assoc front (m ∷ []) ms ∙ split) (length_push front m ∙ ap (λ k. k + 1) long) (advance_kept w.at w.stack m place ∙ same)
-      (subst (λ k. MatchResult v.at (Stands p es R W (front ++ m ∷ []) v.stack) (Refuses p es R W ns k)) same
-      (advance ns front ms m place split long w.at w.stack (subst (λ k. MatchResult w.at (Stands p es R W front w.stack) (Refuses p es R W ns k)) (sym same) h)))
+  rest_told [] ns front place w split long h = subst (λ f. MatchResult w.at (Stands p es R W f w.stack) (Refuses p es R W ns w.stack)) (sym (append-nil front) ∙ split) h
+  rest_told (m ∷ ms) ns front place w split long h =
+      rest_told ms ns (front ++ m ∷ []) (place + 1) (advance_by p es R W w.at w.stack m place) (append_assoc front (m ∷ []) ms ∙ split) (length_push front m ∙ ap (λ k. k + 1) long)
+      (advance ns front ms m place split long w.at w.stack h)
 
-  pub told : (ns : List ℕ) (stack : List Frame) → MatchResult (replayed p es R W ns stack).at (Stands p es R W ns (replayed p es R W ns stack).stack) (Refuses p es R W ns (length stack))
+  pub told : (ns : List ℕ) (stack : List Frame) → MatchResult (replayed p es R W ns stack).at (Stands p es R W ns (replayed p es R W ns stack).stack) (Refuses p es R W ns (replayed p es R W ns stack).stack)
   told [] stack = (λ l. absurd (omega arith), λ r. let l : 0 < length {A = ℕ} [] = run_some r.2 in omega arith)
   told (m ∷ ms) stack =
-      rest_told ms (m ∷ ms) (m ∷ []) 1 (first_walked p R W m stack) (length stack) refl refl (stack_kept (step_first p R m) stack)
+      rest_told ms (m ∷ ms) (m ∷ []) 1 (first_walked p R W m stack) refl refl
       (after (m ∷ ms) [] ms m 0 refl refl stack 0 W.start (omega arith) (λ l. absurd (omega arith)) (step_first p R m) (first_goes stack m))
+
+  -- a step keeps the stack's length, and so does a list of them
+  step_kept : (o : Option (ℕ × Frame)) (stack : List Frame) → length (step_stack o stack) ≡ length stack
+  step_kept None stack = refl
+  step_kept (Some s) stack = cond_both (leb s.0 (length stack)) (set stack (s.0 - 1) s.1) stack (λ x. length x ≡ length stack) (λ _. length-set stack (s.0 - 1) s.1) (λ _. refl)
+
+  advance_kept : (a : Result Stand Refusal) (stack : List Frame) (m place : ℕ) → length (advance_by p es R W a stack m place).stack ≡ length stack
+  advance_kept (Ok s) stack m place = step_kept (step_from p es R stack s.depth m) stack
+  advance_kept (Err e) stack m place = refl
+
+  rest_kept : (ms : List ℕ) (place : ℕ) (w : Walked) → length (replay_from p es R W ms place w).stack ≡ length w.stack
+  unfolding replay_from
+  rest_kept [] place w = refl
+  rest_kept (m ∷ ms) place w = rest_kept ms (place + 1) (advance_by p es R W w.at w.stack m place) ∙ advance_kept w.at w.stack m place
+
+  kept : (ns : List ℕ) (stack : List Frame) → length (replayed p es R W ns stack).stack ≡ length stack
+  kept [] stack = refl
+  kept (m ∷ ms) stack = rest_kept ms 1 (first_walked p R W m stack) ∙ step_kept (step_first p R m) stack
 
   -- a step's answer says its place, which a list sets
   at_place : (o : Option (ℕ × Frame)) (room q m place : ℕ) (P : Stand → Type 0) (Q : Refusal → Type 0) → MatchResult (step_answer p W o room q m place) P Q → MatchResult (step_answer p W o room q m 0) P (λ e. Q (placed e place))
@@ -298,23 +308,23 @@ module _ (p : Program) (es : List Edge) (R : Rule) (W : Watch) where
 
   -- an answer and a stack that are those of the first step, and of a step from where a run stands
   pub first_told : (m : ℕ) (stack last : List Frame) (a : Result Stand Refusal) → a ≡ step_answer p W (step_first p R m) (length stack) W.start m 0 → last ≡ step_stack (step_first p R m) stack
-      → MatchResult a (Stands p es R W (m ∷ []) last) (Refuses p es R W (m ∷ []) (length stack))
+      → MatchResult a (Stands p es R W (m ∷ []) last) (Refuses p es R W (m ∷ []) last)
   first_told m stack last a answer frames =
-      subst (λ b. MatchResult b (Stands p es R W (m ∷ []) last) (Refuses p es R W (m ∷ []) (length stack))) (sym answer)
-      (subst (λ fs. MatchResult (step_answer p W (step_first p R m) (length stack) W.start m 0) (Stands p es R W (m ∷ []) fs) (Refuses p es R W (m ∷ []) (length stack))) (sym frames)
+      subst (λ b. MatchResult b (Stands p es R W (m ∷ []) last) (Refuses p es R W (m ∷ []) last)) (sym answer)
+      (subst (λ fs. MatchResult (step_answer p W (step_first p R m) (length stack) W.start m 0) (Stands p es R W (m ∷ []) fs) (Refuses p es R W (m ∷ []) fs)) (sym frames)
       (after (m ∷ []) [] [] m 0 refl refl stack 0 W.start (omega arith) (λ l. absurd (omega arith)) (step_first p R m) (first_goes stack m)))
 
   pub step_told : (d q m : ℕ) (stack last : List Frame) (a : Result Stand Refusal) → a ≡ step_answer p W (step_from p es R stack d m) (length stack) q m 0 → last ≡ step_stack (step_from p es R stack d m) stack
-      → (ns : List ℕ) → StandsAt p es R W ns stack d q → MatchResult a (Stands p es R W (ns ++ m ∷ []) last) (λ e. Refuses p es R W (ns ++ m ∷ []) (length stack) (placed e (length ns)))
+      → (ns : List ℕ) → StandsAt p es R W ns stack d q → MatchResult a (Stands p es R W (ns ++ m ∷ []) last) (λ e. Refuses p es R W (ns ++ m ∷ []) last (placed e (length ns)))
   step_told d q m stack last a answer frames ns at =
       let high : d ≤ length stack = at.1 in
       let some = run_deep at.0 in
       let k = frames_length stack d high in
-      subst (λ b. MatchResult b (Stands p es R W (ns ++ m ∷ []) last) (λ e. Refuses p es R W (ns ++ m ∷ []) (length stack) (placed e (length ns)))) (sym answer)
-      (subst (λ fs. MatchResult (step_answer p W (step_from p es R stack d m) (length stack) q m 0) (Stands p es R W (ns ++ m ∷ []) fs) (λ e. Refuses p es R W (ns ++ m ∷ []) (length stack) (placed e (length ns)))) (sym frames)
-      (at_place (step_from p es R stack d m) (length stack) q m (length ns) (Stands p es R W (ns ++ m ∷ []) (step_stack (step_from p es R stack d m) stack)) (Refuses p es R W (ns ++ m ∷ []) (length stack))
-      (after (ns ++ m ∷ []) ns [] m (length ns) refl refl stack d q high (λ _. (frames_in stack d, q, at.0)) (step_from p es R stack d m)
-      (step_goes stack d (omega arith) high (reverse ns) q at.0 m))))
+      let o = step_from p es R stack d m in
+      subst (λ b. MatchResult b (Stands p es R W (ns ++ m ∷ []) last) (λ e. Refuses p es R W (ns ++ m ∷ []) last (placed e (length ns)))) (sym answer)
+      (subst (λ fs. MatchResult (step_answer p W o (length stack) q m 0) (Stands p es R W (ns ++ m ∷ []) fs) (λ e. Refuses p es R W (ns ++ m ∷ []) fs (placed e (length ns)))) (sym frames)
+      (at_place o (length stack) q m (length ns) (Stands p es R W (ns ++ m ∷ []) (step_stack o stack)) (Refuses p es R W (ns ++ m ∷ []) (step_stack o stack))
+      (after (ns ++ m ∷ []) ns [] m (length ns) refl refl stack d q high (λ _. (d, q, at)) o (step_goes stack d (omega arith) high (reverse ns) q at.0 m))))
 
   -- the nodes that a run came to first are the trace of a run
   shorter : (t u : List ℕ) (fs : List Frame) (q : ℕ) → 0 < length u → Run p es R W (t ++ u) fs q → (gs : List Frame) × (r : ℕ) × Run p es R W u gs r
@@ -335,35 +345,21 @@ module _ (p : Program) (es : List Edge) (R : Rule) (W : Watch) where
       (subst (λ t. Run p es R W t r.0 r.1) (ap reverse (sym (take-append-drop (i + 1) ns)) ∙ reverse-append (take (i + 1) ns) (drop (i + 1) ns)) r.2)
 
   -- with enough stack an answer that is told so decides
-  decides : (ns : List ℕ) (room : ℕ) (stack : List Frame) (a : Result Stand Refusal) → MatchResult a (Stands p es R W ns stack) (Refuses p es R W ns room) → Enough p es R W ns room → Decides (is_ok a) (RunTrace p es R W ns)
-  decides ns room stack (Ok s) h enough = (λ _. (frames_in stack s.depth, s.state, h.run), λ _. refl)
-  decides ns room stack (Err (NotAStep i)) h enough = (λ e. absurd (false≢true e), λ r. absurd (h.1 (trace_front ns i r)))
-  decides ns room stack (Err (StackFull i)) h enough =
-      let a = enough (i + 1) h.1 h.2 h.3 in
-      let b : room < length h.1 = h.4 in
+  decides : (ns : List ℕ) (stack : List Frame) (a : Result Stand Refusal) → MatchResult a (Stands p es R W ns stack) (Refuses p es R W ns stack) → Enough p es R W ns (length stack) → Decides (is_ok a) (RunTrace p es R W ns)
+  decides ns stack (Ok s) h enough = (λ _. (frames_in stack s.depth, s.state, h.run), λ _. refl)
+  decides ns stack (Err (NotAStep i)) h enough = (λ e. absurd (false≢true e), λ r. absurd (h.1 (trace_front ns i r)))
+  decides ns stack (Err (StackFull i)) h enough =
+      let a = enough (i + 1) h.2 h.3 h.4 in
+      let b : length stack < length h.2 = h.5 in
       absurd (omega arith)
-  decides ns room stack (Err (Misplaced entry)) h enough = absurd h
-  decides ns room stack (Err (Miscounted entry)) h enough = absurd h
-  decides ns room stack (Err (BadMethod method)) h enough = absurd h
-  decides ns room stack (Err (BadNode node)) h enough = absurd h
-  decides ns room stack (Err (BadEdge edge)) h enough = absurd h
-  decides ns room stack (Err (BadRow row)) h enough = absurd h
-  decides ns room stack (Err TooMany) h enough = absurd h
-  decides ns room stack (Err OtherCounts) h enough = absurd h
-  decides ns room stack (Err UnfitTable) h enough = absurd h
-  decides ns room stack (Err NotAnEdge) h enough = absurd h
-  decides ns room stack (Err EdgeHeld) h enough = absurd h
-  decides ns room stack (Err EdgesFull) h enough = absurd h
-  decides ns room stack (Err InquiryFull) h enough = absurd h
-  decides ns room stack (Err NotUnsafe) h enough = absurd h
-  decides ns room stack (Err (LongTrace n)) h enough = absurd h
-  decides ns room stack (Err (ShortOutput needed)) h enough = absurd h
+  decides ns stack (Err _) h enough = absurd h
 
   pub accepts : (ns : List ℕ) (stack : List Frame) → Enough p es R W ns (length stack) → Decides (is_ok (replayed p es R W ns stack).at) (RunTrace p es R W ns)
-  accepts ns stack = decides ns (length stack) (replayed p es R W ns stack).stack (replayed p es R W ns stack).at (told ns stack)
+  accepts ns stack enough =
+      decides ns (replayed p es R W ns stack).stack (replayed p es R W ns stack).at (told ns stack) (subst (Enough p es R W ns) (sym (kept ns stack)) enough)
 
   -- a run has no more frames than nodes in its trace, so a stack of as many places as a list has nodes is long enough for it
-  few_frames : {t : List ℕ} {fs : List Frame} {q : ℕ} → Run p es R W t fs q → length fs ≤ length t
+  pub few_frames : {t : List ℕ} {fs : List Frame} {q : ℕ} → Run p es R W t fs q → length fs ≤ length t
   few_frames (start a) = omega arith
   few_frames (pass m r g l) = omega (arith, few_frames r)
   few_frames (enter m r g) = omega (arith, few_frames r)
@@ -374,10 +370,10 @@ module _ (p : Program) (es : List Edge) (R : Rule) (W : Watch) where
 
   -- an answer and a stack that are those of the walk
   module _ (ns : List ℕ) (stack : List Frame) (a : Result Stand Refusal) (last : List Frame) (answer : a ≡ (replayed p es R W ns stack).at) (frames : last ≡ (replayed p es R W ns stack).stack) where
-    pub told_so : MatchResult a (Stands p es R W ns last) (Refuses p es R W ns (length stack))
+    pub told_so : MatchResult a (Stands p es R W ns last) (Refuses p es R W ns last)
     told_so =
-        subst (λ b. MatchResult b (Stands p es R W ns last) (Refuses p es R W ns (length stack))) (sym answer)
-        (subst (λ fs. MatchResult (replayed p es R W ns stack).at (Stands p es R W ns fs) (Refuses p es R W ns (length stack))) (sym frames) (told ns stack))
+        subst (λ b. MatchResult b (Stands p es R W ns last) (Refuses p es R W ns last)) (sym answer)
+        (subst (λ fs. MatchResult (replayed p es R W ns stack).at (Stands p es R W ns fs) (Refuses p es R W ns fs)) (sym frames) (told ns stack))
 
     pub accepts_so : Enough p es R W ns (length stack) → Decides (is_ok a) (RunTrace p es R W ns)
     accepts_so enough = subst (λ b. Decides (is_ok b) (RunTrace p es R W ns)) (sym answer) (accepts ns stack enough)

@@ -10,7 +10,7 @@ use Rattle.model.specs.Program.{Program, node_at}
 use Rattle.model.specs.Runs.{reads, is_call}
 use Rattle.model.specs.Watches.{Watch}
 use Rattle.recipe.specs.declared.grounds.Refusal.{Refusal}
-use Rattle.recipe.specs.declared.grounds.Refusal.TheVariants.{Misplaced, Miscounted, BadMethod, BadNode, BadEdge, BadRow, TooMany, OtherCounts, UnfitTable, NotAnEdge, EdgeHeld, EdgesFull, InquiryFull, NotUnsafe, LongTrace, NotAStep, StackFull, ShortOutput}
+use Rattle.recipe.specs.declared.grounds.Refusal.TheVariants.{NotAStep, StackFull}
 use Rattle.walker.specs.declared.stands.Stand.{Stand}
 
 -- what a place past the end stands for
@@ -55,22 +55,7 @@ step_stack (Some s) stack = cond (nat_le s.0 (length stack)) (slice_set stack (s
 abbrev pub placed : Refusal → ℕ → Refusal
 placed (NotAStep place) i = NotAStep i
 placed (StackFull place) i = StackFull i
-placed (Misplaced entry) i = Misplaced entry
-placed (Miscounted entry) i = Miscounted entry
-placed (BadMethod method) i = BadMethod method
-placed (BadNode node) i = BadNode node
-placed (BadEdge edge) i = BadEdge edge
-placed (BadRow row) i = BadRow row
-placed TooMany i = TooMany
-placed OtherCounts i = OtherCounts
-placed UnfitTable i = UnfitTable
-placed NotAnEdge i = NotAnEdge
-placed EdgeHeld i = EdgeHeld
-placed EdgesFull i = EdgesFull
-placed InquiryFull i = InquiryFull
-placed NotUnsafe i = NotUnsafe
-placed (LongTrace n) i = LongTrace n
-placed (ShortOutput needed) i = ShortOutput needed
+placed other i = other
 
 -- where a walk is: its answer so far, and the stack
 pub record Walked : Type 0 where

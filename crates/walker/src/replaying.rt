@@ -3,6 +3,7 @@ ghost use Rattle.std.specs.Prelude.{◌≡◌, ◌≤◌, length, take, is_ok, D
 ghost use Rattle.model.specs.Agreement.{RunTrace};
 ghost use Rattle.rules.specs.Subjects.{setting_of};
 ghost use Rattle.walker.specs.Accepted.{Stands, Refuses, Enough};
+ghost use Rattle.walker.specs.Modelled.{TraceAccepted, TraceRefused};
 ghost use Rattle.walker.specs.Walking.{placed, replayed};
 
 use crate::{Modelled, Stand, go, start};
@@ -21,7 +22,7 @@ fn placed(refusal: Refusal, place: usize) -> Refusal
     }
 }
 
-// Walks along a whole list; stops at the first node that is refused, with the frames of the steps before it in the stack.
+// Walks along a whole list, up to the first node that is refused: that node writes nothing.
 fn walk_along<R: AccessRule, W: Watch>(
     on: &Subject<R, W>,
     edges: &[Edge],
@@ -50,14 +51,14 @@ pub fn replay<R: AccessRule, W: Watch>(
 ) -> Result<Stand, Refusal>
     ensures answer { let X = setting_of R.meaning W.watching on.now (take 4096 edges.now) in result ≡ (replayed X.program X.edges X.rule X.watch nodes.now stack.old).at }
     ensures frames { let X = setting_of R.meaning W.watching on.now (take 4096 edges.now) in stack.new ≡ (replayed X.program X.edges X.rule X.watch nodes.now stack.old).stack }
-    ensures told { let X = setting_of R.meaning W.watching on.now (take 4096 edges.now) in MatchResult result (Stands X.program X.edges X.rule X.watch nodes.now stack.new) (Refuses X.program X.edges X.rule X.watch nodes.now (length stack.old)) }
+    ensures told { let X = setting_of R.meaning W.watching on.now (take 4096 edges.now) in MatchResult result (Stands X.program X.edges X.rule X.watch nodes.now stack.new) (Refuses X.program X.edges X.rule X.watch nodes.now stack.new) }
     ensures accepts { let X = setting_of R.meaning W.watching on.now (take 4096 edges.now) in Enough X.program X.edges X.rule X.watch nodes.now (length stack.old) → Decides (is_ok result) (RunTrace X.program X.edges X.rule X.watch nodes.now) }
     ensures enough { let X = setting_of R.meaning W.watching on.now (take 4096 edges.now) in length nodes.now ≤ length stack.old → Enough X.program X.edges X.rule X.watch nodes.now (length stack.old) }
 {
     walk_along(on, edges, stack, nodes)
 }
 
-// Replays under a rule that a transition system models: with enough stack it accepts exactly the traces of that system.
+// Replays under a rule that a transition system models. What it accepts is a trace of that system; a stack of as many places as the list has nodes is enough for it to accept every trace.
 pub fn replay_modelled<R: Modelled, W: Watch>(
     on: &Subject<R, W>,
     edges: &[Edge],
@@ -67,6 +68,8 @@ pub fn replay_modelled<R: Modelled, W: Watch>(
     ensures answer { let X = setting_of R.meaning W.watching on.now (take 4096 edges.now) in result ≡ (replayed X.program X.edges X.rule X.watch nodes.now stack.old).at }
     ensures frames { let X = setting_of R.meaning W.watching on.now (take 4096 edges.now) in stack.new ≡ (replayed X.program X.edges X.rule X.watch nodes.now stack.old).stack }
     ensures accepts { let X = setting_of R.meaning W.watching on.now (take 4096 edges.now) in Enough X.program X.edges X.rule X.watch nodes.now (length stack.old) → Decides (is_ok result) (R.traces X.program X.edges nodes.now) }
+    ensures decides { let X = setting_of R.meaning W.watching on.now (take 4096 edges.now) in length nodes.now ≤ length stack.old → Decides (is_ok result) (R.traces X.program X.edges nodes.now) }
+    ensures told { let X = setting_of R.meaning W.watching on.now (take 4096 edges.now) in MatchResult result (TraceAccepted (R.traces X.program X.edges) X.program X.watch nodes.now) (TraceRefused (R.traces X.program X.edges) nodes.now (length stack.old)) }
 {
     replay(on, edges, stack, nodes)
 }

@@ -38,7 +38,7 @@ pub fn start<R: AccessRule, W: Watch>(
 ) -> Result<Stand, Refusal>
     ensures answer { let X = setting_of R.meaning W.watching on.now [] in result ≡ step_answer X.program X.watch (step_first X.program X.rule node) (length stack.old) X.watch.start node 0 }
     ensures frames { let X = setting_of R.meaning W.watching on.now [] in stack.new ≡ step_stack (step_first X.program X.rule node) stack.old }
-    ensures told { (es : List Edge) → let X = setting_of R.meaning W.watching on.now [] in MatchResult result (Stands X.program es X.rule X.watch (node ∷ []) stack.new) (Refuses X.program es X.rule X.watch (node ∷ []) (length stack.old)) }
+    ensures told { (es : List Edge) → let X = setting_of R.meaning W.watching on.now [] in MatchResult result (Stands X.program es X.rule X.watch (node ∷ []) stack.new) (Refuses X.program es X.rule X.watch (node ∷ []) stack.new) }
 {
     if !on.recipe.is_entry_of(0, node) {
         return Err(NO_STEP);
@@ -65,7 +65,7 @@ pub fn go<R: AccessRule, W: Watch>(
 ) -> Result<Stand, Refusal>
     ensures answer { let X = setting_of R.meaning W.watching on.now (take 4096 edges.now) in result ≡ step_answer X.program X.watch (step_from X.program X.edges X.rule stack.old depth node) (length stack.old) state node 0 }
     ensures frames { let X = setting_of R.meaning W.watching on.now (take 4096 edges.now) in stack.new ≡ step_stack (step_from X.program X.edges X.rule stack.old depth node) stack.old }
-    ensures told { let X = setting_of R.meaning W.watching on.now (take 4096 edges.now) in (ns : List ℕ) → StandsAt X.program X.edges X.rule X.watch ns stack.old depth state → MatchResult result (Stands X.program X.edges X.rule X.watch (ns ++ node ∷ []) stack.new) (λ e. Refuses X.program X.edges X.rule X.watch (ns ++ node ∷ []) (length stack.old) (placed e (length ns))) }
+    ensures told { let X = setting_of R.meaning W.watching on.now (take 4096 edges.now) in (ns : List ℕ) → StandsAt X.program X.edges X.rule X.watch ns stack.old depth state → MatchResult result (Stands X.program X.edges X.rule X.watch (ns ++ node ∷ []) stack.new) (λ e. Refuses X.program X.edges X.rule X.watch (ns ++ node ∷ []) stack.new (placed e (length ns))) }
 {
     if depth == 0 || depth > stack.len() {
         return Err(NO_STEP);
