@@ -1,5 +1,5 @@
 -- What an answer says of runs it says of the traces of a transition system that agrees with them.
-use Rattle.std.proofs.Common.{◌≡◌, ℕ, ◌+◌, List, reverse, length, take, Ok, Err, Result, MatchResult, refl, ap, ◌∙◌, arith}
+use Rattle.std.proofs.Common.{◌≡◌, ℕ, ◌+◌, List, length, take, Ok, Err, Result, MatchResult, ap, ◌∙◌, arith}
 use Rattle.std.proofs.lemmas.List.{length-take, length-reverse}
 use Rattle.model.specs.declared.Edge.{Edge}
 use Rattle.model.specs.declared.Frame.{Frame}

@@ -231,7 +231,7 @@ module _ (p : Program) (es : List Edge) (R : Rule) (W : Watch) where
             let l = leb-true s.0 (length stack) e in
             let k : s.0 - 1 < length stack = omega arith in
             let run : Run p es R W (reverse (front ++ m ∷ [])) (frames_in (set stack (s.0 - 1) s.1) s.0) (W.step q (reads p m)) = subst (λ t. Run p es R W t (frames_in (set stack (s.0 - 1) s.1) s.0) (W.step q (reads p m))) (sym (reverse_push front m))
-                (subst (λ fs. Run p es R W (m ∷ reverse front) fs (W.step q (reads p m))) (sym (frames_set stack s.0 s.1 h.0 l)) h.2) in
+            (subst (λ fs. Run p es R W (m ∷ reverse front) fs (W.step q (reads p m))) (sym (frames_set stack s.0 s.1 h.0 l)) h.2) in
             record {
               run = run;
               deep = subst (λ j. s.0 ≤ j) (sym (length-set stack (s.0 - 1) s.1)) l;
@@ -325,6 +325,21 @@ module _ (p : Program) (es : List Edge) (R : Rule) (W : Watch) where
       (subst (λ fs. MatchResult (step_answer p W o (length stack) q m 0) (Stands p es R W (ns ++ m ∷ []) fs) (λ e. Refuses p es R W (ns ++ m ∷ []) fs (placed e (length ns)))) (sym frames)
       (at_place o (length stack) q m (length ns) (Stands p es R W (ns ++ m ∷ []) (step_stack o stack)) (Refuses p es R W (ns ++ m ∷ []) (step_stack o stack))
       (after (ns ++ m ∷ []) ns [] m (length ns) refl refl stack d q high (λ _. (d, q, at)) o (step_goes stack d (omega arith) high (reverse ns) q at.0 m))))
+
+  -- a step that was made: the new top frame is in its place, and the answer is of that frame
+  pub step_made : (d q m e : ℕ) (f : Frame) (stack last : List Frame) (depth : ℕ) (s : Stand) → step_from p es R stack d m ≡ Some (e, f) → f.node ≡ m → 1 ≤ e → e ≤ length stack → last ≡ set stack (e - 1) f → depth ≡ e
+      → s ≡ stand_at W depth (get_or last (depth - 1) no_frame) (W.step q (reads p (get_or last (depth - 1) no_frame).node))
+      → (Ok s ≡ step_answer p W (step_from p es R stack d m) (length stack) q m 0) × (last ≡ step_stack (step_from p es R stack d m) stack)
+      × ((ns : List ℕ) → StandsAt p es R W ns stack d q → Stands p es R W (ns ++ m ∷ []) last s)
+  step_made d q m e f stack last depth s goes there low fits written deep stands =
+      let near : e - 1 < length stack = omega arith in
+      let room = le-leb e (length stack) fits in
+      let top : get_or last (depth - 1) no_frame ≡ f = ap₂ (λ fs k. get_or fs (k - 1) no_frame) written deep ∙ get_or-set_same stack (e - 1) f no_frame near in
+      let made : s ≡ stand_at W e f (W.step q (reads p m)) = stands ∙ ap₂ (λ k g. stand_at W k g (W.step q (reads p g.node))) deep top ∙ ap (λ n. stand_at W e f (W.step q (reads p n))) there in
+      let answer : Ok s ≡ step_answer p W (step_from p es R stack d m) (length stack) q m 0 =
+      ap Ok made ∙ sym (ap (λ o. step_answer p W o (length stack) q m 0) goes ∙ cond-true (leb e (length stack)) (Ok (stand_at W e f (W.step q (reads p m)))) (Err (StackFull 0)) room) in
+      let frames : last ≡ step_stack (step_from p es R stack d m) stack = written ∙ sym (ap (λ o. step_stack o stack) goes ∙ cond-true (leb e (length stack)) (set stack (e - 1) f) stack room) in
+      (answer, frames, step_told d q m stack last (Ok s) answer frames)
 
   -- the nodes that a run came to first are the trace of a run
   shorter : (t u : List ℕ) (fs : List Frame) (q : ℕ) → 0 < length u → Run p es R W (t ++ u) fs q → (gs : List Frame) × (r : ℕ) × Run p es R W u gs r

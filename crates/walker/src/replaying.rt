@@ -22,7 +22,7 @@ fn placed(refusal: Refusal, place: usize) -> Refusal
     }
 }
 
-// Walks along a whole list, up to the first node that is refused: that node writes nothing.
+// Walks along a list up to its end, or to the first node that is refused.
 fn walk_along<R: AccessRule, W: Watch>(
     on: &Subject<R, W>,
     edges: &[Edge],
@@ -42,7 +42,7 @@ fn walk_along<R: AccessRule, W: Watch>(
     Ok(at)
 }
 
-// Replays a list: what it answers tells of runs.
+// Replays a list: what it answers tells of runs. A node that is not a step, or for which the stack has no place, is refused with its place in the list, and an empty list as not a step at place 0; the run up to that node is still in the stack.
 pub fn replay<R: AccessRule, W: Watch>(
     on: &Subject<R, W>,
     edges: &[Edge],
@@ -58,7 +58,7 @@ pub fn replay<R: AccessRule, W: Watch>(
     walk_along(on, edges, stack, nodes)
 }
 
-// Replays under a rule that a transition system models. What it accepts is a trace of that system; a stack of as many places as the list has nodes is enough for it to accept every trace.
+// Replays under a rule that a transition system models. What it accepts is a trace of that system, and with as many places of stack as the list has nodes it accepts every trace. Refused as `replay` is.
 pub fn replay_modelled<R: Modelled, W: Watch>(
     on: &Subject<R, W>,
     edges: &[Edge],

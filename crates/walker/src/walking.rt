@@ -1,16 +1,18 @@
 // Steps of a run.
-ghost use Rattle.std.specs.Prelude.{◌≡◌, ℕ, List, [], ◌∷◌, ◌++◌, length, take, MatchResult};
+ghost use Rattle.std.specs.Prelude.{◌≡◌, ℕ, List, [], ◌∷◌, ◌++◌, ◌&&◌, length, nat_lt, take, MatchResult};
 ghost use Rattle.model.specs.declared.Edge.{Edge};
-ghost use Rattle.model.specs.Runs.{reads};
+ghost use Rattle.model.specs.Program.{node_at};
+ghost use Rattle.model.specs.Runs.{reads, is_call};
 ghost use Rattle.recipe.specs.Recipes.{program};
+ghost use Rattle.recipe.specs.Writing.{listed_edges};
 ghost use Rattle.rules.specs.Subjects.{setting_of};
 ghost use Rattle.walker.specs.Accepted.{Stands, StandsAt, Refuses};
-ghost use Rattle.walker.specs.Walking.{placed, step_first, step_from, step_answer, step_stack, stand_at};
+ghost use Rattle.walker.specs.Walking.{leads, placed, step_first, step_from, step_answer, step_stack, stand_at};
 
 use crate::Stand;
 use crate::leading::leads;
 use model::Frame;
-use recipe::{Edge, Kind, Refusal};
+use recipe::{Edge, Kind, Recipe, Refusal};
 use rules::{AccessRule, Subject, Watch};
 
 // Where a run stands that has come to a node with its top frame: the watch has read the node's mark.
@@ -26,11 +28,20 @@ fn stand<R: AccessRule, W: Watch>(on: &Subject<R, W>, depth: usize, state: u32, 
     }
 }
 
+// Whether a run with this top frame, at a return, and a call frame below it may come back to a node.
+fn returns(recipe: &Recipe, edges: &[Edge], top: Frame, call: Frame, to: u32) -> bool
+    ensures { result ≡ (nat_lt top.node (length (program recipe.now).nodes) && (is_call (node_at (program recipe.now) call.node).kind && leads (listed_edges (program recipe.now) edges.now) call.node to)) }
+{
+    top.node < recipe.nodes()
+        && recipe.node_at(call.node).kind.is_call()
+        && leads(recipe, edges, call.node, to)
+}
+
 const NO_STEP: Refusal = Refusal::NotAStep { place: 0 };
 
 const NO_ROOM: Refusal = Refusal::StackFull { place: 0 };
 
-// Begins a run at an entry of main.
+// Begins a run at an entry of main. Any other node is not a step, and with no place lent the stack is full, both at place 0; then nothing is written.
 pub fn start<R: AccessRule, W: Watch>(
     on: &Subject<R, W>,
     stack: &mut [Frame],
@@ -55,6 +66,7 @@ pub fn start<R: AccessRule, W: Watch>(
 }
 
 // Goes on to a node, as the kind of the node where the run stands has it. The stack is lent, so how much of it is in use stands beside it.
+// A node to which that kind does not lead is not a step, nor is any from a depth of 0 or past the stack; a call needs one place more than is in use. Refused, both at place 0, it writes nothing.
 pub fn go<R: AccessRule, W: Watch>(
     on: &Subject<R, W>,
     edges: &[Edge],
@@ -72,43 +84,35 @@ pub fn go<R: AccessRule, W: Watch>(
     }
     let recipe = on.recipe;
     let top = stack[depth - 1];
-    let (depth, next) = match (recipe.node_at(top.node).kind, node) {
-        (Kind::Nop, to) => {
-            if !leads(recipe, edges, top.node, to) {
-                return Err(NO_STEP);
-            }
-            (depth, Frame { node: to, ..top })
+    let depth = match (recipe.node_at(top.node).kind, node) {
+        (Kind::Nop, to) if leads(recipe, edges, top.node, to) => {
+            stack[depth - 1].node = to;
+            depth
         }
-        (Kind::Check { .. }, to) => {
-            if !on.rule.pass(recipe, top.value, top.node) || !leads(recipe, edges, top.node, to) {
-                return Err(NO_STEP);
-            }
-            (depth, Frame { node: to, ..top })
+        (Kind::Check { .. }, to)
+            if on.rule.pass(recipe, top.value, top.node) && leads(recipe, edges, top.node, to) => {
+            stack[depth - 1].node = to;
+            depth
         }
-        (Kind::Call { callee, .. }, to) => {
-            if !recipe.is_entry_of(callee, to) {
-                return Err(NO_STEP);
-            }
+        (Kind::Call { callee, .. }, to) if recipe.is_entry_of(callee, to) => {
             if depth == stack.len() {
                 return Err(NO_ROOM);
             }
-            let value = on.rule.enter(recipe, top.value, top.node, to);
-            (depth + 1, Frame { node: to, value })
+            stack[depth] = Frame {
+                node: to,
+                value: on.rule.enter(recipe, top.value, top.node, to),
+            };
+            depth + 1
         }
-        (Kind::Return, to) => {
-            if top.node >= recipe.nodes() || depth < 2 {
-                return Err(NO_STEP);
-            }
-            let call = stack[depth - 2];
-            if !recipe.node_at(call.node).kind.is_call() || !leads(recipe, edges, call.node, to) {
-                return Err(NO_STEP);
-            }
-            let value = on
+        (Kind::Return, to) if depth >= 2 && returns(recipe, edges, top, stack[depth - 2], to) => {
+            let call = &mut stack[depth - 2];
+            call.value = on
                 .rule
                 .back(recipe, call.value, call.node, top.value, top.node);
-            (depth - 1, Frame { node: to, value })
+            call.node = to;
+            depth - 1
         }
+        _ => return Err(NO_STEP),
     };
-    stack[depth - 1] = next;
-    Ok(stand(on, depth, state, next))
+    Ok(stand(on, depth, state, stack[depth - 1]))
 }
