@@ -28,6 +28,13 @@ fn stand<R: AccessRule, W: Watch>(on: &Subject<R, W>, depth: usize, state: u32, 
     }
 }
 
+// Whether a run with this top frame, at a check, passes it and may go on to a node.
+fn passes<R: AccessRule, W: Watch>(on: &Subject<R, W>, edges: &[Edge], top: Frame, to: u32) -> bool
+    ensures { let X = setting_of R.meaning W.watching on.now (take 4096 edges.now) in result ≡ (X.rule.pass top.value top.node && leads X.edges top.node to) }
+{
+    on.rule.pass(on.recipe, top.value, top.node) && leads(on.recipe, edges, top.node, to)
+}
+
 // Whether a run with this top frame, at a return, and a call frame below it may come back to a node.
 fn returns(recipe: &Recipe, edges: &[Edge], top: Frame, call: Frame, to: u32) -> bool
     ensures { result ≡ (nat_lt top.node (length (program recipe.now).nodes) && (is_call (node_at (program recipe.now) call.node).kind && leads (listed_edges (program recipe.now) edges.now) call.node to)) }
@@ -89,8 +96,7 @@ pub fn go<R: AccessRule, W: Watch>(
             stack[depth - 1].node = to;
             depth
         }
-        (Kind::Check { .. }, to)
-            if on.rule.pass(recipe, top.value, top.node) && leads(recipe, edges, top.node, to) => {
+        (Kind::Check { .. }, to) if passes(on, edges, top, to) => {
             stack[depth - 1].node = to;
             depth
         }

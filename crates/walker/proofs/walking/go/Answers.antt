@@ -36,11 +36,6 @@ returns-in_default-5-clause-told g c =
     let X = setting_of g.R.AccessRule.meaning g.W.Watch.watching c.args.on.now (take 4096 c.args.edges.now) in
     step_told X.program X.edges X.rule X.watch c.args.depth c.args.state c.args.node c.args.stack.now c.args.stack.now (Err (NotAStep 0)) (search rules) (search rules)
 
-pub returns-in_default-6-clause-told : goal.returns-in_default-6-clause-told
-returns-in_default-6-clause-told g c =
-    let X = setting_of g.R.AccessRule.meaning g.W.Watch.watching c.args.on.now (take 4096 c.args.edges.now) in
-    step_told X.program X.edges X.rule X.watch c.args.depth c.args.state c.args.node c.args.stack.now c.args.stack.now (Err (NotAStep 0)) (search rules) (search rules)
-
 pub returns : goal.returns
 returns g c =
     let X = setting_of g.R.AccessRule.meaning g.W.Watch.watching c.args.on.now (take 4096 c.args.edges.now) in
