@@ -16,7 +16,7 @@ use Rattle.model.specs.Searches.{Sound}
 use Rattle.model.proofs.Edges.{edge_rules}
 use Rattle.model.proofs.Links.{link_laws}
 use Rattle.model.proofs.Verdicts.{search_laws}
-use Rattle.walker.proofs.Walks.{leads_decides}
+use Rattle.walker.proofs.Walks.{has_edge_decides}
 use Rattle.inquiry.specs.Calls.{answered, unless}
 use Rattle.asking.specs.declared.requests.Request.{Request}
 use Rattle.asking.specs.declared.requests.Request.TheVariants.{Dig, Link, Verdict, Trace}
@@ -89,7 +89,7 @@ module _ (C : Opened) where
 
     -- the new one is none of those
     link_other : Has (own ++ ls) e → ⊥
-    link_other old = not_from_Decides (is_listed before e) (leads_decides before e.from e.to) fresh (h.has e old)
+    link_other old = not_from_Decides (is_listed before e) (has_edge_decides before e.from e.to) fresh (h.has e old)
 
     -- no link is one that counted at the opening, and no two are the same
     link_new : (d : Edge) → Has (ls ++ e ∷ []) d → Has own d → ⊥
@@ -98,7 +98,7 @@ module _ (C : Opened) where
     link_apart : IsDistinct same_edge (ls ++ e ∷ [])
     link_apart =
         IsDistinct-push same_edge_laws ls e h.apart
-        (false_from_ne_true (is_listed ls e) (λ listed. link_other (has_append_right own ls e ((leads_decides ls e.from e.to).0 listed))))
+        (false_from_ne_true (is_listed ls e) (λ listed. link_other (has_append_right own ls e ((has_edge_decides ls e.from e.to).0 listed))))
 
     -- so all that is kept, where the table has a place and the search is not full
     keeps_link : length s.edges < C.edge_places → s.search.full ≡ false → Keeps C (ls ++ e ∷ []) (linked_at C s e)

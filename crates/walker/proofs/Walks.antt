@@ -17,11 +17,11 @@ use Rattle.recipe.specs.declared.grounds.Refusal.{Refusal}
 use Rattle.recipe.specs.declared.grounds.Refusal.TheVariants.{NotAStep, StackFull}
 use Rattle.walker.specs.declared.stands.Stand.{Stand}
 use Rattle.walker.specs.Accepted.{frames_in, Stands, StandsAt, HoldsRun, Refuses, Enough}
-use Rattle.walker.specs.Walking.{no_frame, leads, step_by, step_from, step_first, step_answer, step_stack, stand_at, placed, Walked, advance_by, replay_from, first_walked, replayed}
+use Rattle.walker.specs.Walking.{no_frame, has_edge, step_by, step_from, step_first, step_answer, step_stack, stand_at, placed, Walked, advance_by, replay_from, first_walked, replayed}
 
 -- the test for an edge says what it should
-pub leads_decides : (es : List Edge) (a b : ℕ) → Decides (leads es a b) (Leads es a b)
-leads_decides es a b = Decides-by_or (λ e. eqb e.from a && eqb e.to b) (λ e. e ≡ record { from = a; to = b }) (λ ds. leads ds a b) each refl (λ _ _. refl) es
+pub has_edge_decides : (es : List Edge) (a b : ℕ) → Decides (has_edge es a b) (Leads es a b)
+has_edge_decides es a b = Decides-by_or (λ e. eqb e.from a && eqb e.to b) (λ e. e ≡ record { from = a; to = b }) (λ ds. has_edge ds a b) each refl (λ _ _. refl) es
   where
     each : (e : Edge) → Decides (eqb e.from a && eqb e.to b) (e ≡ record { from = a; to = b })
     each e =
@@ -47,18 +47,18 @@ frames_length stack d high = length-reverse (take d stack) ∙ length-take-le d 
 
 -- a run with these frames may go on to m, where the top frame is at a node of this kind
 abbrev may : Program → List Edge → Rule → Kind → Frame → List Frame → ℕ → Bool
-may p es R Nop f fs m = leads es f.node m
+may p es R Nop f fs m = has_edge es f.node m
 may p es R (Call callee grant accept privileged) f fs m = is_entry_of p callee m
-may p es R (Check required) f fs m = R.pass f.value f.node && leads es f.node m
+may p es R (Check required) f fs m = R.pass f.value f.node && has_edge es f.node m
 may p es R Return f [] m = false
-may p es R Return f (g ∷ gs) m = ltb f.node (length p.nodes) && (is_call (node_at p g.node).kind && leads es g.node m)
+may p es R Return f (g ∷ gs) m = ltb f.node (length p.nodes) && (is_call (node_at p g.node).kind && has_edge es g.node m)
 
 module _ (p : Program) (es : List Edge) (R : Rule) where
   -- what a run does, it may do
-  may_pass : (k : Kind) (f : Frame) (fs : List Frame) (m : ℕ) → goes_on R k f.node f.value ≡ true → leads es f.node m ≡ true → may p es R k f fs m ≡ true
+  may_pass : (k : Kind) (f : Frame) (fs : List Frame) (m : ℕ) → goes_on R k f.node f.value ≡ true → has_edge es f.node m ≡ true → may p es R k f fs m ≡ true
   may_pass Nop f fs m g l = l
   may_pass (Call callee grant accept privileged) f fs m g l = absurd (false≢true g)
-  may_pass (Check required) f fs m g l = and_from (R.pass f.value f.node) (leads es f.node m) g l
+  may_pass (Check required) f fs m g l = and_from (R.pass f.value f.node) (has_edge es f.node m) g l
   may_pass Return f fs m g l = absurd (false≢true g)
 
   may_enter : (k : Kind) (f : Frame) (fs : List Frame) (m : ℕ) → call_enters p k m ≡ true → may p es R k f fs m ≡ true
@@ -67,14 +67,14 @@ module _ (p : Program) (es : List Edge) (R : Rule) where
   may_enter (Check required) f fs m g = absurd (false≢true g)
   may_enter Return f fs m g = absurd (false≢true g)
 
-  may_back : (k : Kind) (f g : Frame) (gs : List Frame) (m : ℕ) → (ltb f.node (length p.nodes) && is_return k) ≡ true → is_call (node_at p g.node).kind ≡ true → leads es g.node m ≡ true
+  may_back : (k : Kind) (f g : Frame) (gs : List Frame) (m : ℕ) → (ltb f.node (length p.nodes) && is_return k) ≡ true → is_call (node_at p g.node).kind ≡ true → has_edge es g.node m ≡ true
       → may p es R k f (g ∷ gs) m ≡ true
   may_back Nop f g gs m a b l = absurd (false≢true (and_parts (ltb f.node (length p.nodes)) false a).1)
   may_back (Call callee grant accept privileged) f g gs m a b l = absurd (false≢true (and_parts (ltb f.node (length p.nodes)) false a).1)
   may_back (Check required) f g gs m a b l = absurd (false≢true (and_parts (ltb f.node (length p.nodes)) false a).1)
   may_back Return f g gs m a b l =
-      and_from (ltb f.node (length p.nodes)) (is_call (node_at p g.node).kind && leads es g.node m) (and_parts (ltb f.node (length p.nodes)) true a).0
-      (and_from (is_call (node_at p g.node).kind) (leads es g.node m) b l)
+      and_from (ltb f.node (length p.nodes)) (is_call (node_at p g.node).kind && has_edge es g.node m) (and_parts (ltb f.node (length p.nodes)) true a).0
+      (and_from (is_call (node_at p g.node).kind) (has_edge es g.node m) b l)
 
 module _ (p : Program) (es : List Edge) (R : Rule) (W : Watch) where
   -- a run that came to m started there, or came from a shorter run that may go on to m
@@ -85,7 +85,7 @@ module _ (p : Program) (es : List Edge) (R : Rule) (W : Watch) where
   came : {m : ℕ} {t : List ℕ} {gs : List Frame} {q : ℕ} → Run p es R W (m ∷ t) gs q → Came t m
   came (start a) = inl (refl, a)
   came (pass {n = n} {v = v} {fs = fs} {q = q} m r g l) =
-      inr (record { node = n; value = v }, fs, q, r, may_pass p es R (node_at p n).kind (record { node = n; value = v }) fs m g ((leads_decides es n m).1 l))
+      inr (record { node = n; value = v }, fs, q, r, may_pass p es R (node_at p n).kind (record { node = n; value = v }) fs m g ((has_edge_decides es n m).1 l))
   came (enter {n = n} {v = v} {fs = fs} {q = q} m r g) = inr (record { node = n; value = v }, fs, q, r, may_enter p es R (node_at p n).kind (record { node = n; value = v }) fs m g)
   came (back {x = x} {u = u} {n = n} {v = v} {fs = fs} {q = q} m r a b l) =
       inr (
@@ -93,7 +93,7 @@ module _ (p : Program) (es : List Edge) (R : Rule) (W : Watch) where
         record { node = n; value = v } ∷ fs,
         q,
         r,
-        may_back p es R (node_at p x).kind (record { node = x; value = u }) (record { node = n; value = v }) fs m a b ((leads_decides es n m).1 l),
+        may_back p es R (node_at p x).kind (record { node = x; value = u }) (record { node = n; value = v }) fs m a b ((has_edge_decides es n m).1 l),
       )
 
   -- a trace has a node
@@ -149,21 +149,21 @@ module _ (p : Program) (es : List Edge) (R : Rule) (W : Watch) where
         frames_top stack (d - 1) (omega arith) (omega arith) ∙ ap (λ k. get_or stack k no_frame ∷ frames_in stack k) e
 
     -- the test of the step at a return is the test of the frames
-    may_return : may p es R Return top_in rest_in m ≡ (ltb top_in.node (length p.nodes) && (leb 2 d && (is_call (node_at p below_in.node).kind && leads es below_in.node m)))
+    may_return : may p es R Return top_in rest_in m ≡ (ltb top_in.node (length p.nodes) && (leb 2 d && (is_call (node_at p below_in.node).kind && has_edge es below_in.node m)))
     may_return = by (cases_lt d 2)
       where
-        by : (d < 2) ⊎ (2 ≤ d) → may p es R Return top_in rest_in m ≡ (ltb top_in.node (length p.nodes) && (leb 2 d && (is_call (node_at p below_in.node).kind && leads es below_in.node m)))
+        by : (d < 2) ⊎ (2 ≤ d) → may p es R Return top_in rest_in m ≡ (ltb top_in.node (length p.nodes) && (leb 2 d && (is_call (node_at p below_in.node).kind && has_edge es below_in.node m)))
         by (inl h) =
             let e : d - 1 ≡ 0 = omega arith in
             ap (λ k. may p es R Return top_in (frames_in stack k) m) e
-            ∙ sym (and_right (ltb top_in.node (length p.nodes)) (leb 2 d && (is_call (node_at p below_in.node).kind && leads es below_in.node m))
-            (and_left (leb 2 d) (is_call (node_at p below_in.node).kind && leads es below_in.node m) (lt-leb 2 d h)))
-        by (inr h) = ap (λ fs. may p es R Return top_in fs m) (rest_below h) ∙ ap (λ b. ltb top_in.node (length p.nodes) && (b && (is_call (node_at p below_in.node).kind && leads es below_in.node m))) (sym (le-leb 2 d h))
+            ∙ sym (and_right (ltb top_in.node (length p.nodes)) (leb 2 d && (is_call (node_at p below_in.node).kind && has_edge es below_in.node m))
+            (and_left (leb 2 d) (is_call (node_at p below_in.node).kind && has_edge es below_in.node m) (lt-leb 2 d h)))
+        by (inr h) = ap (λ fs. may p es R Return top_in fs m) (rest_below h) ∙ ap (λ b. ltb top_in.node (length p.nodes) && (b && (is_call (node_at p below_in.node).kind && has_edge es below_in.node m))) (sym (le-leb 2 d h))
 
     by_kind : (k : Kind) → (node_at p top_in.node).kind ≡ k → Goes stack d t q m (step_by p es R k top_in below_in d m)
     by_kind Nop e =
-        cond_both (leads es top_in.node m) (Some (d, record { node = m; value = top_in.value })) None (Goes stack d t q m)
-        (λ h. (low, omega arith, pass m here (ap (λ k. goes_on R k top_in.node top_in.value) e) ((leads_decides es top_in.node m).0 h)))
+        cond_both (has_edge es top_in.node m) (Some (d, record { node = m; value = top_in.value })) None (Goes stack d t q m)
+        (λ h. (low, omega arith, pass m here (ap (λ k. goes_on R k top_in.node top_in.value) e) ((has_edge_decides es top_in.node m).0 h)))
         (λ h. stuck (ap (λ k. may p es R k top_in rest_in m) e ∙ h))
     by_kind (Call callee grant accept privileged) e =
         cond_both (is_entry_of p callee m) (Some (d + 1, record { node = m; value = R.enter top_in.value top_in.node m })) None (Goes stack d t q m)
@@ -175,23 +175,23 @@ module _ (p : Program) (es : List Edge) (R : Rule) (W : Watch) where
         ))
         (λ h. stuck (ap (λ k. may p es R k top_in rest_in m) e ∙ h))
     by_kind (Check required) e =
-        cond_both (R.pass top_in.value top_in.node && leads es top_in.node m) (Some (d, record { node = m; value = top_in.value })) None (Goes stack d t q m)
-        (λ h. let c = and_parts (R.pass top_in.value top_in.node) (leads es top_in.node m) h in
-        (low, omega arith, pass m here (ap (λ k. goes_on R k top_in.node top_in.value) e ∙ c.0) ((leads_decides es top_in.node m).0 c.1)))
+        cond_both (R.pass top_in.value top_in.node && has_edge es top_in.node m) (Some (d, record { node = m; value = top_in.value })) None (Goes stack d t q m)
+        (λ h. let c = and_parts (R.pass top_in.value top_in.node) (has_edge es top_in.node m) h in
+        (low, omega arith, pass m here (ap (λ k. goes_on R k top_in.node top_in.value) e ∙ c.0) ((has_edge_decides es top_in.node m).0 c.1)))
         (λ h. stuck (ap (λ k. may p es R k top_in rest_in m) e ∙ h))
     by_kind Return e =
-        cond_both (ltb top_in.node (length p.nodes) && (leb 2 d && (is_call (node_at p below_in.node).kind && leads es below_in.node m)))
+        cond_both (ltb top_in.node (length p.nodes) && (leb 2 d && (is_call (node_at p below_in.node).kind && has_edge es below_in.node m)))
         (Some (d - 1, record { node = m; value = R.back below_in.value below_in.node top_in.value top_in.node })) None (Goes stack d t q m)
-        (λ h. let a = and_parts (ltb top_in.node (length p.nodes)) (leb 2 d && (is_call (node_at p below_in.node).kind && leads es below_in.node m)) h in
-        let b = and_parts (leb 2 d) (is_call (node_at p below_in.node).kind && leads es below_in.node m) a.1 in
-        let c = and_parts (is_call (node_at p below_in.node).kind) (leads es below_in.node m) b.1 in
+        (λ h. let a = and_parts (ltb top_in.node (length p.nodes)) (leb 2 d && (is_call (node_at p below_in.node).kind && has_edge es below_in.node m)) h in
+        let b = and_parts (leb 2 d) (is_call (node_at p below_in.node).kind && has_edge es below_in.node m) a.1 in
+        let c = and_parts (is_call (node_at p below_in.node).kind) (has_edge es below_in.node m) b.1 in
         let two = leb-true 2 d b.0 in
         let k : d - 2 ≡ d - 1 - 1 = omega arith in (
           omega arith,
           omega arith,
           subst (λ j. Run p es R W (m ∷ t) (record { node = m; value = R.back below_in.value below_in.node top_in.value top_in.node } ∷ frames_in stack j) (W.step q (reads p m))) k
               (back m (subst (λ fs. Run p es R W t (top_in ∷ fs) q) (rest_below two) here) (and_from (ltb top_in.node (length p.nodes)) (is_return (node_at p top_in.node).kind) a.0 (ap is_return e)) c.0
-              ((leads_decides es below_in.node m).0 c.1)),
+              ((has_edge_decides es below_in.node m).0 c.1)),
         ))
         (λ h. stuck (ap (λ k. may p es R k top_in rest_in m) e ∙ may_return ∙ h))
 

@@ -7,10 +7,10 @@ ghost use Rattle.recipe.specs.Recipes.{program};
 ghost use Rattle.recipe.specs.Writing.{listed_edges};
 ghost use Rattle.rules.specs.Subjects.{setting_of};
 ghost use Rattle.walker.specs.Accepted.{Stands, StandsAt, Refuses};
-ghost use Rattle.walker.specs.Walking.{leads, placed, step_first, step_from, step_answer, step_stack, stand_at};
+ghost use Rattle.walker.specs.Walking.{has_edge, placed, step_first, step_from, step_answer, step_stack, stand_at};
 
 use crate::Stand;
-use crate::leading::leads;
+use crate::leading::has_edge;
 use model::Frame;
 use recipe::{Edge, Kind, Recipe, Refusal};
 use rules::{AccessRule, Subject, Watch};
@@ -30,18 +30,18 @@ fn stand<R: AccessRule, W: Watch>(on: &Subject<R, W>, depth: usize, state: u32, 
 
 // Whether a run with this top frame, at a check, passes it and may go on to a node.
 fn passes<R: AccessRule, W: Watch>(on: &Subject<R, W>, edges: &[Edge], top: Frame, to: u32) -> bool
-    ensures { let X = setting_of R.meaning W.watching on.now (take 4096 edges.now) in result ≡ (X.rule.pass top.value top.node && leads X.edges top.node to) }
+    ensures { let X = setting_of R.meaning W.watching on.now (take 4096 edges.now) in result ≡ (X.rule.pass top.value top.node && has_edge X.edges top.node to) }
 {
-    on.rule.pass(on.recipe, top.value, top.node) && leads(on.recipe, edges, top.node, to)
+    on.rule.pass(on.recipe, top.value, top.node) && has_edge(on.recipe, edges, top.node, to)
 }
 
 // Whether a run with this top frame, at a return, and a call frame below it may come back to a node.
 fn returns(recipe: &Recipe, edges: &[Edge], top: Frame, call: Frame, to: u32) -> bool
-    ensures { result ≡ (nat_lt top.node (length (program recipe.now).nodes) && (is_call (node_at (program recipe.now) call.node).kind && leads (listed_edges (program recipe.now) edges.now) call.node to)) }
+    ensures { result ≡ (nat_lt top.node (length (program recipe.now).nodes) && (is_call (node_at (program recipe.now) call.node).kind && has_edge (listed_edges (program recipe.now) edges.now) call.node to)) }
 {
     top.node < recipe.nodes()
         && recipe.node_at(call.node).kind.is_call()
-        && leads(recipe, edges, call.node, to)
+        && has_edge(recipe, edges, call.node, to)
 }
 
 const NO_STEP: Refusal = Refusal::NotAStep { place: 0 };
@@ -92,7 +92,7 @@ pub fn go<R: AccessRule, W: Watch>(
     let recipe = on.recipe;
     let top = stack[depth - 1];
     let depth = match (recipe.node_at(top.node).kind, node) {
-        (Kind::Nop, to) if leads(recipe, edges, top.node, to) => {
+        (Kind::Nop, to) if has_edge(recipe, edges, top.node, to) => {
             stack[depth - 1].node = to;
             depth
         }
