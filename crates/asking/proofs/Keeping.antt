@@ -16,7 +16,7 @@ use Rattle.model.specs.Searches.{Sound}
 use Rattle.model.proofs.Edges.{edge_passes, edge_rules}
 use Rattle.model.proofs.Links.{link_laws}
 use Rattle.model.proofs.Verdicts.{search_laws}
-use Rattle.walker.proofs.Walks.{leads_decides}
+use Rattle.walker.proofs.Walks.{has_edge_decides}
 use Rattle.inquiry.specs.Calls.{answered, unless}
 use Rattle.inquiry.specs.declared.requests.Request.{Request}
 use Rattle.inquiry.specs.declared.requests.Request.TheVariants.{Dig, Link, Verdict, Trace}
@@ -92,7 +92,7 @@ module _ (C : Opened) where
 
     -- the new one is none of those
     link_other : Contains (own ++ ls) e → ⊥
-    link_other old = not_from_Decides (is_listed before e) (leads_decides before e.from e.to) fresh (h.has e old)
+    link_other old = not_from_Decides (is_listed before e) (has_edge_decides before e.from e.to) fresh (h.has e old)
 
     -- no link is one that counted at the opening, and no two are the same
     link_new : (d : Edge) → Contains (ls ++ e ∷ []) d → Contains own d → ⊥
@@ -101,7 +101,7 @@ module _ (C : Opened) where
     link_apart : IsDistinct same_edge (ls ++ e ∷ [])
     link_apart =
         IsDistinct-push same_edge_laws ls e h.apart
-        (false_from_ne_true (is_listed ls e) (λ listed. link_other (Contains-append_right own ls e ((leads_decides ls e.from e.to).0 listed))))
+        (false_from_ne_true (is_listed ls e) (λ listed. link_other (Contains-append_right own ls e ((has_edge_decides ls e.from e.to).0 listed))))
 
     -- so all that is kept, where the table has a place and the search is not full
     keeps_link : length s.edges < C.edge_places → s.search.full ≡ false → Keeps C (ls ++ e ∷ []) (linked_at C s e)
@@ -146,7 +146,7 @@ module _ (C : Opened) where
         (edge_rules C.program e right, link_other ls s e h right new, (let n = h.long in omega arith), free, told ∙ ap (λ n. Linked (n + 1)) h.long))
         (λ why is. absurd (let z : ◌≡◌ {A = ℕ} 0 1 = cc in omega arith));
     no_edge = λ is rules. both_ways (is_edge C.program e) (grounds.0 is) (edge_passes C.program e rules);
-    held = λ is. h.counts e ((leads_decides (counted C.program s.edges) from to).0 (grounds.1 is));
+    held = λ is. h.counts e ((has_edge_decides (counted C.program s.edges) from to).0 (grounds.1 is));
     no_place = λ is. let n = h.long in let m = grounds.2 is in omega arith;
     full_up = grounds.3;
   }
@@ -159,7 +159,7 @@ module _ (C : Opened) where
 
       -- what is none of the linked recipe's edges is none of those that count
       unlisted : (Leads (own ++ ls) from to → ⊥) → is_listed (counted C.program s.edges) e ≡ false
-      unlisted new = false_from_ne_true (is_listed (counted C.program s.edges) e) (λ listed. new (h.counts e ((leads_decides (counted C.program s.edges) from to).0 listed)))
+      unlisted new = false_from_ne_true (is_listed (counted C.program s.edges) e) (λ listed. new (h.counts e ((has_edge_decides (counted C.program s.edges) from to).0 listed)))
 
       -- the ground of each refusal
       grounds : (answer C s (Link from to) ≡ Err NotAnEdge → is_edge C.program e ≡ false) × (answer C s (Link from to) ≡ Err EdgeHeld → is_listed (counted C.program s.edges) e ≡ true)

@@ -20,17 +20,17 @@ use Rattle.inquiry.proofs.Allowing.{trace_cases}
 use Rattle.asking.proofs.Moving.{more_bad_trace}
 
 -- a walk that is accepted along the trace of a bad run stands bad
-stands_bad : (X : Setting) (t : List ℕ) (stack : List Frame) (room : ℕ) (a : Result Stand Refusal) → BadTrace X t → MatchResult a (Stands X.program X.edges X.rule X.watch t stack) (Refuses X.program X.edges X.rule X.watch t room) → is_ok a ≡ true
+stands_bad : (X : Setting) (t : List ℕ) (stack : List Frame) (a : Result Stand Refusal) → BadTrace X t → MatchResult a (Stands X.program X.edges X.rule X.watch t stack) (Refuses X.program X.edges X.rule X.watch t stack) → is_ok a ≡ true
     → (s : Stand) × (a ≡ Ok s) × (s.bad ≡ true)
-stands_bad X t stack room (Ok s) run h ok =
+stands_bad X t stack (Ok s) run h ok =
     (s, refl, h.bad ∙ ap X.watch.bad (follows_from_trace X.program X.edges X.rule X.watch _ _ _ s.state run.1 h.run run.2).1 ∙ run.3)
-stands_bad X t stack room (Err why) run h ok = absurd (false≢true ok)
+stands_bad X t stack (Err why) run h ok = absurd (false≢true ok)
 
 -- so a walker accepts that trace, over any list of the same edges
 pub bad_walks : (X : Setting) (t : List ℕ) → BadTrace X t → Walks X t
 bad_walks X t run es stack fewer more enough =
     let moved = more_bad_trace X es more t run in
-    stands_bad (record { program = X.program; edges = es; rule = X.rule; watch = X.watch }) t (replayed X.program es X.rule X.watch t stack).stack (length stack) (replayed X.program es X.rule X.watch t stack).at moved
+    stands_bad (record { program = X.program; edges = es; rule = X.rule; watch = X.watch }) t (replayed X.program es X.rule X.watch t stack).stack (replayed X.program es X.rule X.watch t stack).at moved
     (told X.program es X.rule X.watch t stack) ((accepts X.program es X.rule X.watch t stack enough).1 (moved.0, moved.1, moved.2))
 
 -- where a row is bad the trace of the first one is written, or it is too long

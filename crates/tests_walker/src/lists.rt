@@ -5,7 +5,7 @@ use recipe::recipe_of;
 use rules::{History, StackInspection, Subject, TableWatch};
 use samples::recipe_a;
 use std::test::Fail;
-use walker::{Stand, replay_modelled};
+use walker::{Stand, replay, replay_modelled};
 
 const EMPTY: Frame = Frame { node: 9, value: 9 };
 
@@ -99,6 +99,27 @@ fn a_bad_run_and_a_full_stack(rt: HostRuntime) -> Result<(), Fail> {
     assert_eq!(rt;
         replay_modelled(on, edges, &mut [], &[3]),
         Err(NotAStep { place: 0 })
+    );
+    Ok(())
+}
+
+// History refuses the check at node 4, since the rights of method 1 are gone; the frames of the four nodes before are still there.
+#[test]
+fn a_refused_list_leaves_the_frames_that_it_came_to(rt: HostRuntime) -> Result<(), Fail> {
+    let recipe = &recipe_of(recipe_a::file())?;
+    let on = &Subject {
+        recipe,
+        rule: &History,
+        watch: &TableWatch { recipe },
+    };
+    let mut frames = [EMPTY; 3];
+    assert_eq!(rt;
+        replay(on, recipe_a::parts().edges, &mut frames, &[0, 3, 1, 4, 5]),
+        Err(NotAStep { place: 4 })
+    );
+    assert_eq!(rt;
+        frames,
+        [Frame { node: 1, value: 1 }, Frame { node: 4, value: 1 }, EMPTY]
     );
     Ok(())
 }

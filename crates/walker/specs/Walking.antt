@@ -10,24 +10,24 @@ use Rattle.model.specs.Program.{Program, node_at, is_entry_of}
 use Rattle.model.specs.Runs.{reads, is_call}
 use Rattle.model.specs.Watches.{Watch}
 use Rattle.recipe.specs.declared.grounds.Refusal.{Refusal}
-use Rattle.recipe.specs.declared.grounds.Refusal.TheVariants.{Misplaced, Miscounted, BadMethod, BadNode, BadEdge, BadRow, TooMany, OtherCounts, UnfitTable, NotAnEdge, EdgeHeld, EdgesFull, InquiryFull, NotUnsafe, LongTrace, NotAStep, StackFull, ShortOutput}
+use Rattle.recipe.specs.declared.grounds.Refusal.TheVariants.{NotAStep, StackFull}
 use Rattle.walker.specs.declared.stands.Stand.{Stand}
 
 -- what a place past the end stands for
 abbrev pub no_frame : Frame
 no_frame = record { node = 0; value = 0 }
 
--- an edge of the list leads from a to b
-abbrev pub leads : List Edge → ℕ → ℕ → Bool
-leads es a b = list_any (λ e. e.from == a && e.to == b) es
+-- whether an edge of the list leads from a to b
+abbrev pub has_edge : List Edge → ℕ → ℕ → Bool
+has_edge es a b = list_any (λ e. e.from == a && e.to == b) es
 
 -- the step to node m: how many frames there are then, and the top one. The top frame decides by the kind of its node; below it is the frame that a return would go back to
 abbrev pub step_by : Program → List Edge → Rule → Kind → Frame → Frame → ℕ → ℕ → Option (ℕ × Frame)
-step_by p es R Nop top below depth m = cond (leads es top.node m) (Some (depth, record { node = m; value = top.value })) None
+step_by p es R Nop top below depth m = cond (has_edge es top.node m) (Some (depth, record { node = m; value = top.value })) None
 step_by p es R (Call callee grant accept privileged) top below depth m = cond (is_entry_of p callee m) (Some (depth + 1, record { node = m; value = R.enter top.value top.node m })) None
-step_by p es R (Check required) top below depth m = cond (R.pass top.value top.node && leads es top.node m) (Some (depth, record { node = m; value = top.value })) None
+step_by p es R (Check required) top below depth m = cond (R.pass top.value top.node && has_edge es top.node m) (Some (depth, record { node = m; value = top.value })) None
 step_by p es R Return top below depth m =
-    cond (nat_lt top.node (length p.nodes) && (nat_le 2 depth && (is_call (node_at p below.node).kind && leads es below.node m)))
+    cond (nat_lt top.node (length p.nodes) && (nat_le 2 depth && (is_call (node_at p below.node).kind && has_edge es below.node m)))
     (Some (depth - 1, record { node = m; value = R.back below.value below.node top.value top.node })) None
 
 abbrev pub step_from : Program → List Edge → Rule → List Frame → ℕ → ℕ → Option (ℕ × Frame)
@@ -55,22 +55,7 @@ step_stack (Some s) stack = cond (nat_le s.0 (length stack)) (slice_set stack (s
 abbrev pub placed : Refusal → ℕ → Refusal
 placed (NotAStep place) i = NotAStep i
 placed (StackFull place) i = StackFull i
-placed (Misplaced entry) i = Misplaced entry
-placed (Miscounted entry) i = Miscounted entry
-placed (BadMethod method) i = BadMethod method
-placed (BadNode node) i = BadNode node
-placed (BadEdge edge) i = BadEdge edge
-placed (BadRow row) i = BadRow row
-placed TooMany i = TooMany
-placed OtherCounts i = OtherCounts
-placed UnfitTable i = UnfitTable
-placed NotAnEdge i = NotAnEdge
-placed EdgeHeld i = EdgeHeld
-placed EdgesFull i = EdgesFull
-placed InquiryFull i = InquiryFull
-placed NotUnsafe i = NotUnsafe
-placed (LongTrace n) i = LongTrace n
-placed (ShortOutput needed) i = ShortOutput needed
+placed other i = other
 
 -- where a walk is: its answer so far, and the stack
 pub record Walked : Type 0 where

@@ -4,7 +4,7 @@ use Rattle.std.proofs.lemmas.Iterator.Consumers.{YieldsList-from_first}
 use Rattle.std.proofs.lemmas.Iterator.Search.{any_from_yields_List}
 use Rattle.model.specs.declared.Edge.{Edge}
 use Rattle.recipe.specs.Sequences.{left_in_list}
-use Rattle.walker.proofs.leading.leads.Goals as goal
+use Rattle.walker.proofs.leading.has_edge.Goals as goal
 
 pub returns : goal.returns
 returns c =
