@@ -1,7 +1,7 @@
 #!/usr/bin/env python3
 """Spells the repository's own definitions and lemmas in snake case, once: `firstOffence` and `first-offence` become `first_offence`.
 
-usage: python3 tools/port_names.py, at the top of the repository
+usage: python3 docs/history/port_names.py, at the top of the repository
 
 A name turns if a file of specs/ or proofs/ declares it: in those files, in the clauses and `ghost use` items of src/, and in the code spans of pages.
 What stays: types (they begin with a capital), imported names, labels that are made from the code (the first name behind `c.`, `w.`, `l.` or `goal.` in answers and invariants),

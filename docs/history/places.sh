@@ -1,9 +1,9 @@
 #!/bin/bash
 # Counts, in crates/*/src below the folder given (this repository, if none is), the places that a reader of today's Rattle would ask about: one line a point and a pattern. With -l it lists them.
-# A hit is a place to look at, not a fault: docs/DESIGN-PASS.md says of each what became of it.
+# A hit is a place to look at, not a fault: DESIGN-PASS.md, beside this script, says of each what became of it.
 show=-c
 [ "$1" = -l ] && { show=-l; shift; }
-cd "${1:-$(dirname "$0")/..}" || exit 1
+cd "${1:-$(dirname "$0")/../..}" || exit 1
 count() {
     hits=$(grep -rnE "$2" crates/*/src --include='*.rt' | grep -vE '^[^:]*:[0-9]+: *//')
     n=$(printf '%s' "$hits" | grep -c '')
