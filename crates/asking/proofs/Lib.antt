@@ -9,6 +9,7 @@ pub mod Lasting
 pub mod Making
 pub mod Modelling
 pub mod Moving
+pub mod Files
 pub mod Showing
 pub mod Telling
 pub mod Working

@@ -3,3 +3,4 @@ pub mod Law
 pub mod Made
 pub mod Modelled
 pub mod Recorded
+pub mod Saved

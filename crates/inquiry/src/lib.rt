@@ -19,6 +19,7 @@ mod reports;
 mod requests;
 mod rows;
 mod scene;
+mod tables;
 mod tracing;
 mod working;
 
