@@ -1,5 +1,5 @@
 -- The worked cases. Of recipe A both searches are computed, and a search that is through holds all that is yielded.
-use Rattle.std.proofs.Common.{◌≡◌, ℕ, ◌<◌, false, [], ◌∷◌, map, length, sym, refl, ap, ◌∙◌, subst, ap₂, arith}
+use Rattle.std.proofs.Common.{◌≡◌, ℕ, ◌<◌, false, [], ◌∷◌, length, sym, refl, ap, ◌∙◌, subst, ap₂, arith}
 use Rattle.std.proofs.lemmas.List.{length-map}
 use Rattle.std.proofs.lemmas.Bool.{both_ways}
 use Rattle.model.specs.declared.Point.{Point}
@@ -8,7 +8,7 @@ use Rattle.model.specs.Program.{home}
 use Rattle.model.specs.RecipeA.{history_a, stack_a}
 use Rattle.model.specs.Searches.{Through, Told, HeldAt, fact_in, trace_at, facts_of}
 use Rattle.model.specs.Tables.{is_held, targets, each_of, offers, Search, offer, offer_all, opened, work, dug, any_bad, first_bad, tales_after, tale_at}
-use Rattle.model.specs.Worked.{YieldsExactly, numbers, Worked}
+use Rattle.model.specs.Worked.{YieldsExactly, history_rows, stack_rows, Worked}
 use Rattle.model.proofs.Searching.{opened_sound, dug_sound}
 use Rattle.model.proofs.Telling.{fact_of, fact_in_lem, search_tells}
 use Rattle.model.proofs.Verdicts.{none_bad}
@@ -48,31 +48,10 @@ module _ (X : Setting) (places : ℕ) (s : Search) (told : Told X places s) wher
 
 -- both searches, through
 abbrev pub history_end : Search
-history_end = record {
-  rows =
-      record { entry = 0; brought = 3; seen = 0; node = 0; value = 3; state = 0; rule = 1; source = 0; returned = 0; span = 1 }
-      ∷ record { entry = 3; brought = 1; seen = 1; node = 3; value = 1; state = 1; rule = 3; source = 1; returned = 0; span = 1 }
-      ∷ record { entry = 0; brought = 3; seen = 0; node = 1; value = 1; state = 1; rule = 4; source = 1; returned = 2; span = 3 }
-      ∷ record { entry = 4; brought = 1; seen = 1; node = 4; value = 1; state = 1; rule = 3; source = 3; returned = 0; span = 1 }
-      ∷ [];
-  worked = 4;
-  full = false;
-}
+history_end = record { rows = history_rows; worked = 4; full = false }
 
 abbrev pub stack_end : Search
-stack_end = record {
-  rows =
-      record { entry = 0; brought = 3; seen = 0; node = 0; value = 3; state = 0; rule = 1; source = 0; returned = 0; span = 1 }
-      ∷ record { entry = 3; brought = 1; seen = 1; node = 3; value = 1; state = 1; rule = 3; source = 1; returned = 0; span = 1 }
-      ∷ record { entry = 0; brought = 3; seen = 0; node = 1; value = 3; state = 1; rule = 4; source = 1; returned = 2; span = 3 }
-      ∷ record { entry = 4; brought = 3; seen = 1; node = 4; value = 3; state = 1; rule = 3; source = 3; returned = 0; span = 1 }
-      ∷ record { entry = 4; brought = 3; seen = 1; node = 5; value = 3; state = 2; rule = 2; source = 4; returned = 0; span = 2 }
-      ∷ record { entry = 4; brought = 3; seen = 1; node = 6; value = 3; state = 2; rule = 2; source = 5; returned = 0; span = 3 }
-      ∷ record { entry = 0; brought = 3; seen = 0; node = 2; value = 3; state = 2; rule = 4; source = 3; returned = 6; span = 7 }
-      ∷ [];
-  worked = 7;
-  full = false;
-}
+stack_end = record { rows = stack_rows; worked = 7; full = false }
 
 pub history_search : dug history_a 4 4 (opened history_a 4) ≡ history_end
 unfolding home is_held targets each_of offers offer offer_all opened work dug
@@ -111,9 +90,10 @@ worked_cases = record {
   wall_not_yet = refl;
   wall_both = refl;
   wall_bad = refl;
+  history_table = ap (λ (s : Search). s.rows) history_search;
+  stack_table = ap (λ (s : Search). s.rows) stack_search;
   history_facts = through_exact history_a 4 history_end history_told (refl, omega arith);
   history_good = through_good history_a 4 history_end history_told (refl, omega arith) history_none;
   stack_facts = through_exact stack_a 7 stack_end stack_told (refl, omega arith);
-  stack_rows = ap (λ (s : Search). map numbers s.rows) stack_search;
   stack_trace = ap (λ (s : Search). trace_at s.rows (first_bad stack_a.watch s.rows)) stack_search ∙ stack_first;
 }
