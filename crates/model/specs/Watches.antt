@@ -1,5 +1,6 @@
 -- Watches as mathematics: what a watch is, and the two watches, the table and the wall.
-use Rattle.std.specs.Prelude.{◌≡◌, ℕ, ◌+◌, ◌<◌, Bool, true, cond, ◌&&◌, List, length, ◌==◌, bit_or, nat_lt, slice_index, slice_index_or}
+use Rattle.std.specs.Prelude.{◌≡◌, ℕ, ◌+◌, ◌<◌, Bool, true, cond, ◌&&◌, List, length, ◌==◌, bit_or, nat_lt, slice_index, slice_index_or, fold, All}
+use Rattle.std.specs.List.{list_any}
 use Rattle.model.specs.Program.{no_row}
 
 -- how many states there are, the first one, the state after a mark, and which states are bad
@@ -42,8 +43,13 @@ wall_watch one two = record {
 abbrev pub StaysBad : Watch → Type 0
 StaysBad W = (q mark : ℕ) → q < W.states → mark < 32 → W.bad q ≡ true → W.bad (W.step q mark) ≡ true
 
--- neither watch forgets, and in a table an undefined cell leads to the bad state
+-- the state after some marks, in their order
+abbrev pub after_marks : Watch → List ℕ → ℕ
+after_marks W marks = fold W.step W.start marks
+
+-- neither watch forgets; in a table an undefined cell leads to the bad state; and the wall is bad exactly if both its marks were met
 pub record WatchLaws : Type 0 where
   pub table_stays : (rows : List (List ℕ)) → StaysBad (table_watch rows)
   pub wall_stays : (one two : ℕ) → StaysBad (wall_watch one two)
+  pub wall_meets : (one two : ℕ) (marks : List ℕ) → All (λ m. m < 32) marks → (wall_watch one two).bad (after_marks (wall_watch one two) marks) ≡ (list_any (λ m. m == one) marks && list_any (λ m. m == two) marks)
   pub undefined : (rows : List (List ℕ)) (q mark : ℕ) → q < length rows → mark < 32 → slice_index (slice_index_or rows q no_row) mark ≡ 255 → (table_watch rows).bad ((table_watch rows).step q mark) ≡ true

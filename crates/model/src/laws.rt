@@ -12,7 +12,7 @@ pub fn worked_cases()
     ensures { Worked }
 {}
 
-// A watch that is bad stays so, and an undefined cell of a table leads to a bad state.
+// A watch that is bad stays so; an undefined cell of a table leads to a bad state, and the wall is bad exactly if both its marks were met.
 pub fn watches_stay_bad()
     ensures { WatchLaws }
 {}
