@@ -21,6 +21,10 @@ pub(crate) fn judged(verdict: Verdict) -> Result<Reply, Refusal> {
     Ok(Reply::Judged(verdict))
 }
 
+pub(crate) fn traced(length: u32) -> Result<Reply, Refusal> {
+    Ok(Reply::Traced { length })
+}
+
 pub(crate) fn report(verdict: Verdict, held: u32, worked: u32) -> Report {
     Report {
         verdict,
@@ -86,13 +90,13 @@ pub(crate) fn check_asked<R: Modelled>(
 fn by_stack() -> [Asked; 9] {
     [
         (Request::Verdict, judged(Verdict::Unfinished)),
-        (Request::Trace, Err(NotUnsafe)),
+        (Request::Trace { room: 6 }, Err(NotUnsafe)),
         (Request::Dig { allowed: 0 }, dug(0, 1)),
         (Request::Dig { allowed: 3 }, dug(3, 4)),
         (Request::Verdict, judged(Verdict::Unfinished)),
         (Request::Dig { allowed: 1 }, dug(1, 5)),
         (Request::Verdict, judged(Verdict::Unsafe)),
-        (Request::Trace, Ok(Reply::Traced { length: 5 })),
+        (Request::Trace { room: 6 }, traced(5)),
         (DIG_ALL, dug(3, 7)),
     ]
 }
@@ -100,10 +104,10 @@ fn by_stack() -> [Asked; 9] {
 // Under history nothing is bad, so no trace is written.
 fn by_history() -> [Asked; 4] {
     [
-        (Request::Trace, Err(NotUnsafe)),
+        (Request::Trace { room: 0 }, Err(NotUnsafe)),
         (DIG_ALL, dug(4, 4)),
         (Request::Verdict, judged(Verdict::Safe)),
-        (Request::Trace, Err(NotUnsafe)),
+        (Request::Trace { room: 6 }, Err(NotUnsafe)),
     ]
 }
 

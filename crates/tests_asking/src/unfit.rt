@@ -11,7 +11,7 @@ const REQUESTS: [Request; 4] = [
     Request::Verdict,
     Request::Dig { allowed: 1 },
     Request::Link { from: 0, to: 2 },
-    Request::Trace,
+    Request::Trace { room: 2 },
 ];
 
 #[test]
