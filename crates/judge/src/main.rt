@@ -1,12 +1,9 @@
-// Reads a recipe file from standard input, and prints what it comes to under both rules, or the number of the refusal.
+// Judges recipe files: those that are named in its arguments, or the one on standard input.
 #![tactic(auto)]
 
-use judging::printed;
-use std::io::Read;
+use judge_files::run;
+use std::process::ExitCode;
 
-fn main(rt: HostRuntime) -> anyhow::Result<()> {
-    let mut file = Vec::new(rt.alloc());
-    rt.stdin().read_to_end(&mut file)?;
-    rt.println(printed(rt.alloc(), &file)?)?;
-    Ok(())
+fn main(rt: HostRuntime) -> anyhow::Result<ExitCode> {
+    run(&rt)
 }

@@ -1,14 +1,13 @@
 // What a judgement looks like, and what is printed for a file.
-ghost use Rattle.std.specs.Prelude.{◌≡◌, Some, MatchResult};
+ghost use Rattle.std.specs.Prelude.{◌≡◌, Some, IfOk};
 ghost use Rattle.std.specs.Fmt.{DisplaysOnOk};
 ghost use Rattle.std.specs.String.{string_bytes};
-ghost use Rattle.judging.specs.declared.errors.JudgeError.TheVariants.{OutOfMemory};
 ghost use Rattle.judging.specs.Judged.{shown};
-ghost use Rattle.judging.specs.Printed.{nodes_text, line_text, lines_text, text_of};
+ghost use Rattle.judging.specs.Printed.{nodes_text, line_text, lines_text, verdicts_text, named_text, text_of, TextTells};
 
-use crate::{Finding, JudgeError, Judgement, judge};
+use crate::{Finding, Judgement, Tables, Verdicts};
 use recipe::Refusal;
-use std::alloc::Global;
+use std::alloc::{AllocError, Global};
 use std::fmt;
 
 // Each node of a list, with a blank before it.
@@ -53,13 +52,42 @@ impl fmt::Display for Judgement {
     }
 }
 
-// What is printed for a file: a line for each rule, or the number by which users know the refusal.
-pub fn printed(heap: Global, file: &[u8]) -> Result<String, JudgeError>
-    ensures { MatchResult result (λ text. string_bytes text ≡ text_of file.now) (λ why. why ≡ OutOfMemory) }
-{
-    match judge(heap, file) {
-        Ok(judgement) => Ok(judgement.to_string(heap)?),
-        Err(JudgeError::Refused(refusal)) => Ok(refusal.number().to_string(heap)?),
-        Err(JudgeError::OutOfMemory) => Err(JudgeError::OutOfMemory),
+// A line for each rule, or the number by which users know the refusal.
+impl fmt::Display for Verdicts {
+    ghost output = { λ v. Some (verdicts_text v) };
+
+    fn fmt<W: fmt::Write>(&self, f: &mut fmt::Formatter<W>) -> fmt::Result {
+        match &self.judged {
+            Ok(judgement) => write!(f, "{judgement}"),
+            Err(refusal) => {
+                let number = refusal.number();
+                write!(f, "{number}")
+            }
+        }
     }
+}
+
+// What is printed for one of several files: its name on a line, and then its verdicts.
+#[derive(Clone, Copy)]
+pub struct Named<'a> {
+    pub name: &'a str,
+    pub verdicts: &'a Verdicts,
+}
+
+impl<'a> fmt::Display for Named<'a> {
+    ghost output = { λ n. Some (named_text n.name.now (verdicts_text n.verdicts.now)) };
+
+    fn fmt<W: fmt::Write>(&self, f: &mut fmt::Formatter<W>) -> fmt::Result {
+        let Named { name, verdicts } = self;
+        write!(f, "{name}\n{verdicts}")
+    }
+}
+
+// What is printed for a file, as a text; fails only for want of memory, for the tables or for the text.
+pub fn printed(heap: Global, file: &[u8]) -> Result<String, AllocError>
+    ensures text { IfOk result (λ text. string_bytes text ≡ text_of file.now) }
+    ensures tells { IfOk result (λ text. TextTells file.now (string_bytes text)) }
+{
+    let verdicts = Tables::new(heap)?.verdicts(file);
+    verdicts.to_string(heap)
 }
