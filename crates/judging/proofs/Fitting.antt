@@ -1,12 +1,12 @@
 -- The tables of a judgement fit every recipe, and what is found under both rules is right.
 use Rattle.std.proofs.Common.{◌≡◌, ◌≢◌, ℕ, ◌+◌, ◌≤◌, true, cond, ◌&&◌, leb, ◌⊎◌, List, [], ◌∷◌, ◌++◌, length, get_or, drop, None, Ok, Err, Option, Result, sym, refl, ap, ◌∙◌, subst, inl, inr, arith}
-use Rattle.std.proofs.lemmas.Bool.{le-leb, leb-true, and_parts, cond_both}
+use Rattle.std.proofs.lemmas.Bool.{le-leb, leb-true, and_parts, cond_both, both_ways}
 use Rattle.std.proofs.lemmas.List.{take_at}
 use Rattle.recipe.specs.declared.Recipe.{Recipe}
 use Rattle.recipe.specs.declared.grounds.Refusal.{Refusal}
 use Rattle.recipe.specs.declared.grounds.Refusal.TheVariants.{TooMany, UnfitTable, NotUnsafe, LongTrace}
 use Rattle.recipe.specs.Recipes.{file_of, program, own_edges}
-use Rattle.recipe.proofs.Standing.{edges_count, rows_count}
+use Rattle.recipe.proofs.Standing.{rows_count}
 use Rattle.model.specs.Access.{Rule, history, stack_inspection}
 use Rattle.model.specs.Agreement.{RunTrace}
 use Rattle.model.specs.Facts.{Setting}
@@ -179,13 +179,10 @@ module _ (rule : Program → Rule) (places room : ℕ) (bs : List ℕ) where
 pub both_right : (z : Sizes) (bs : List ℕ) → LegalFile bs → JudgedRight z bs (Ok (both_in z bs))
 both_right z bs legal = (legal, right_so history z.facts z.history bs HistoryTrace legal history_agrees, right_so stack_inspection z.facts z.stack bs StackTrace legal stack_agrees)
 
--- a recipe has at most 16 rows and 4,096 edges, and both rules have 65,536 values
+-- a recipe has at most 16 rows, and both rules have 65,536 values
 module _ (r : Recipe) where
   rows_fit : leb (length (program r).rows + 1) 65536 ≡ true
   rows_fit = let h = rows_count r in let few = r.layout.rows_few in le-leb _ _ (omega arith)
-
-  edges_fit : leb (length (own_edges r)) 4096 ≡ true
-  edges_fit = let h = edges_count r in let few = r.layout.edges_few in le-leb _ _ (omega arith)
 
   -- so only the tables can be unfit
   pub fit_is : (rule : Program → Rule) → ((p : Program) → (rule p).values ≡ 65536) → (z : Sizes) → fit_answer (setting_in rule (file_of r)) (length (own_edges r)) z.facts z.edges ≡ room_in z (file_of r)
@@ -194,16 +191,23 @@ module _ (r : Recipe) where
       let counts : counts_fit Z.rule.values Z.watch.states ≡ true = (λ i. counts_fit (values (program r) i) Z.watch.states) ∙ rows_fit in
       ap (λ c. cond c (room_in z (file_of r)) (Err TooMany)) counts
 
-  -- and tables of these sizes are not
-  pub usual_fit : tables_fit (length (own_edges r)) 1024 4096 ≡ true
-  usual_fit = ap (λ b. b && true) edges_fit
+-- the usual tables fit every legal file
+module _ (bs : List ℕ) (legal : LegalFile bs) where
+  usual_fit : tables_fit (length (edges_of bs)) usual.facts usual.edges ≡ true
+  usual_fit = ap (λ b. b && true) (le-leb (length (edges_of bs)) 4096 (legal_lawful bs legal).few_edges)
 
-  pub room_usual : room_in usual (file_of r) ≡ Ok tt
-  room_usual = ap (λ b. cond b (Ok tt) (Err UnfitTable)) usual_fit
+  -- so it is judged in them
+  pub judged_so : first_offence (take_tests bs ++ check_tests bs) ≡ None → judgement_of bs ≡ Ok (both_in usual bs)
+  judged_so none = ap (λ o. answered o (both_in usual bs)) (ap (λ f. refused_first f (room_in usual bs)) none ∙ ap (λ b. cond b (Ok tt) (Err UnfitTable)) usual_fit)
 
-  -- so a legal file is judged there
-  pub judged_so : (bs : List ℕ) → file_of r ≡ bs → first_offence (take_tests bs ++ check_tests bs) ≡ None → judgement_of bs ≡ Ok (both_in usual bs)
-  judged_so bs same none = ap (λ o. answered o (both_in usual bs)) (ap (λ f. refused_first f (room_in usual bs)) none ∙ ap (room_in usual) (sym same) ∙ room_usual)
+  -- and not refused
+  refused_wrong : (e : Refusal) → JudgedRight usual bs (Err e) → ⊥
+  refused_wrong e (inl not_legal) = not_legal legal
+  refused_wrong e (inr unfit) = both_ways (tables_fit (length (edges_of bs)) usual.facts usual.edges) unfit.2 usual_fit
+
+-- a file that is refused there is not legal
+pub not_legal : (bs : List ℕ) (e : Refusal) → judgement_of bs ≡ Err e → JudgedRight usual bs (judgement_of bs) → LegalFile bs → ⊥
+not_legal bs e judged right legal = refused_wrong bs legal e (subst (JudgedRight usual bs) judged right)
 
 -- in memory of any sizes what a legal file comes to is right
 pub right_in : (z : Sizes) (bs : List ℕ) → first_offence (take_tests bs ++ check_tests bs) ≡ None → LegalFile bs → JudgedRight z bs (judgement_in z bs)

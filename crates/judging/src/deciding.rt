@@ -53,7 +53,7 @@ fn inquired<R: AccessRule>(
 }
 
 // Inquires into a recipe under both rules, one after the other.
-pub(crate) fn inquired_twice(
+fn inquired_twice(
     recipe: &Recipe,
     facts: &mut [Fact],
     edges: &mut [Edge],

@@ -1,15 +1,13 @@
 // Judges a file in memory of its own.
 ghost use Rattle.std.specs.Prelude.{◌≡◌, length, Ok, Err, MatchResult};
 ghost use Rattle.recipe.specs.Format.{Legal};
-ghost use Rattle.recipe.specs.Recipes.{file_of};
-ghost use Rattle.judging.specs.Judged.{usual, shown, shown_both, judgement_of, both_in, JudgedRight, Answers, Tells};
+ghost use Rattle.judging.specs.Judged.{usual, shown, shown_both, judgement_of, JudgedRight, Answers, Tells};
 ghost use Rattle.judging.specs.Parts.{nodes_written};
 ghost use Rattle.judging.specs.Printed.{verdicts_text, text_of, TextTells};
 
-use crate::deciding::inquired_twice;
-use crate::{Finding, JudgeError, Judgement, Outcome, Verdicts};
+use crate::{Finding, JudgeError, Judgement, Outcome, Verdicts, judge_in};
 use inquiry::Fact;
-use recipe::{Edge, Recipe, Refusal, recipe_of};
+use recipe::{Edge, Refusal, recipe_of};
 use std::alloc::{AllocError, Global};
 
 // The places of the fact table.
@@ -66,9 +64,10 @@ impl Tables {
         })
     }
 
-    // Inquires into a recipe under both rules.
-    fn inquired(self, recipe: &Recipe) -> Judgement
-        ensures { shown_both result ≡ both_in usual (file_of recipe.now) }
+    // Judges a file: fails only where the file is refused, by 1 to 6.
+    pub fn judge(self, file: &[u8]) -> Result<Judgement, Refusal>
+        ensures answer { MatchResult result (λ j. judgement_of file.now ≡ Ok (shown_both j)) (λ e. judgement_of file.now ≡ Err e) }
+        ensures tells { MatchResult result (λ j. JudgedRight usual file.now (Ok (shown_both j))) (λ e. Legal file.now → ⊥) }
     {
         let Tables {
             mut facts,
@@ -76,22 +75,11 @@ impl Tables {
             mut history,
             mut stack,
         } = self;
-        match inquired_twice(recipe, &mut facts, &mut edges, &mut history, &mut stack) {
-            Ok(outcomes) => Judgement {
-                history: finding(outcomes.history, history),
-                stack: finding(outcomes.stack, stack),
-            },
-            Err(_) => unreachable!(),
-        }
-    }
-
-    // Judges a file: fails only where the file is refused, by 1 to 6.
-    pub fn judge(self, file: &[u8]) -> Result<Judgement, Refusal>
-        ensures answer { MatchResult result (λ j. judgement_of file.now ≡ Ok (shown_both j)) (λ e. judgement_of file.now ≡ Err e) }
-        ensures tells { MatchResult result (λ j. JudgedRight usual file.now (Ok (shown_both j))) (λ e. Legal file.now → ⊥) }
-    {
-        let recipe = recipe_of(file)?;
-        Ok(self.inquired(&recipe))
+        let outcomes = judge_in(file, &mut facts, &mut edges, &mut history, &mut stack)?;
+        Ok(Judgement {
+            history: finding(outcomes.history, history),
+            stack: finding(outcomes.stack, stack),
+        })
     }
 
     // Judges a file, for its verdicts to be printed.
@@ -104,12 +92,12 @@ impl Tables {
     }
 }
 
-// Judges a file, in memory that it gets for that once the file is read.
+// Judges a file, in memory that it gets once the file is found legal: want of memory is told of no other.
 pub fn judge(heap: Global, file: &[u8]) -> Result<Judgement, JudgeError>
     ensures answer { Answers file.now result }
     ensures tells { Tells file.now result }
 {
-    let recipe = recipe_of(file)?;
+    let _recipe = recipe_of(file)?;
     let tables = Tables::new(heap)?;
-    Ok(tables.inquired(&recipe))
+    Ok(tables.judge(file)?)
 }

@@ -1,30 +1,15 @@
-use Rattle.std.proofs.Common.{◌≡◌, ◌++◌, None, Ok, Err, sym, ap, ◌∙◌, subst, rules}
+use Rattle.std.proofs.Common.{◌≡◌, ◌++◌, None, Err, sym, ap, ◌∙◌, subst, rules}
 use Rattle.std.proofs.lemmas.Result.{err_from_is_err_and}
 use Rattle.recipe.specs.Format.{Legal}
 use Rattle.recipe.specs.Offence.{first_offence, take_tests, check_tests}
-use Rattle.recipe.specs.Recipes.{file_of}
-use Rattle.judging.specs.Judged.{usual, both_in, JudgedRight, Answers}
-use Rattle.judging.proofs.Fitting.{judged_so, both_right}
+use Rattle.judging.specs.Judged.{Answers}
+use Rattle.judging.proofs.Fitting.{judged_so}
 use Rattle.judging.proofs.tables.judge.Goals as goal
-
-pub returns-clause-answer : goal.returns-clause-answer
-returns-clause-answer c =
-    let bs = c.args.file.now in
-    let same : file_of c.in_ok-recipe.recipe ≡ bs = search rules in
-    let none : first_offence (take_tests bs ++ check_tests bs) ≡ None = search rules in
-    judged_so c.in_ok-recipe.recipe bs same none ∙ sym (ap Ok (c.inquired.ensures ∙ ap (both_in usual) same))
-
-pub returns-clause-tells : goal.returns-clause-tells
-returns-clause-tells c =
-    let bs = c.args.file.now in
-    let same : file_of c.in_ok-recipe.recipe ≡ bs = search rules in
-    let legal : Legal bs = search rules in
-    subst (λ f. JudgedRight usual bs (Ok f)) (sym (c.inquired.ensures ∙ ap (both_in usual) same)) (both_right usual bs legal)
 
 pub returns-in_err-tables-clause-answer : goal.returns-in_err-tables-clause-answer
 returns-in_err-tables-clause-answer c =
     let bs = c.args.file.now in
-    let same : file_of c.in_ok-recipe.recipe ≡ bs = search rules in
     let none : first_offence (take_tests bs ++ check_tests bs) ≡ None = search rules in
+    let legal : Legal bs = search rules in
     let e = err_from_is_err_and c.from_residual-in_err-tables.result c.from_residual-in_err-tables.ensures.1 in
-    subst (Answers bs) (sym (e.1 ∙ ap Err e.2)) (judged_so c.in_ok-recipe.recipe bs same none)
+    subst (Answers bs) (sym (e.1 ∙ ap Err e.2)) (judged_so bs legal none)
