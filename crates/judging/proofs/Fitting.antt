@@ -1,6 +1,7 @@
 -- The tables of a judgement fit every recipe, and what is found under both rules is right.
-use Rattle.std.proofs.Common.{◌≡◌, ◌≢◌, ℕ, ◌+◌, ◌≤◌, true, cond, ◌&&◌, leb, ◌⊎◌, List, [], ◌∷◌, ◌++◌, length, get_or, drop, None, Ok, Err, Option, Result, sym, refl, ap, ◌∙◌, subst, inl, inr, arith}
+use Rattle.std.proofs.Common.{◌≡◌, ◌≢◌, ℕ, ◌+◌, ◌≤◌, true, cond, ◌&&◌, leb, ltb, min, ◌⊎◌, List, [], ◌∷◌, ◌++◌, length, get_or, drop, None, Ok, Err, Option, Result, sym, refl, ap, ◌∙◌, subst, inl, inr, arith}
 use Rattle.std.proofs.lemmas.Bool.{le-leb, leb-true, and_parts, cond_both, both_ways}
+use Rattle.std.proofs.lemmas.Bool.Decides.{nat_tests}
 use Rattle.std.proofs.lemmas.List.{take_at}
 use Rattle.recipe.specs.declared.Recipe.{Recipe}
 use Rattle.recipe.specs.declared.grounds.Refusal.{Refusal}
@@ -25,16 +26,16 @@ use Rattle.model.specs.Watches.{Watch, table_watch}
 use Rattle.recipe.specs.Bytes.{program_of, edges_of}
 use Rattle.recipe.specs.Format.{bytes_of, Legal as LegalFile}
 use Rattle.recipe.proofs.ReadBack.{read_program, read_edges}
-use Rattle.inquiry.specs.Calls.{Allowed, answered, unless, counts_fit, tables_fit, fit_answer, trace_length, trace_output}
+use Rattle.inquiry.specs.Calls.{Allowed, answered, unless, counts_fit, tables_fit, fit_answer, trace_length, trace_allowed, trace_output}
 use Rattle.inquiry.proofs.Allowed.{by_allowed}
 use Rattle.inquiry.proofs.Wholes.{comes_so}
 use Rattle.asking.specs.Asked.{recorded}
-use Rattle.asking.specs.Histories.{Opened, Standing, begun, step, after, after_from, asked, may_trace, replies_from}
-use Rattle.asking.specs.declared.requests.Request.{Request}
-use Rattle.asking.specs.declared.requests.Request.TheVariants.{Dig, Trace}
-use Rattle.asking.specs.declared.requests.Reply.{Reply}
-use Rattle.asking.specs.declared.requests.Reply.TheVariants.{Traced}
-use Rattle.asking.proofs.Allowing.{trace_cases}
+use Rattle.inquiry.specs.Histories.{Opened, Standing, begun, step, output_by, after, after_from, output_after, output_from, asked, may_trace, replies_from}
+use Rattle.inquiry.specs.declared.requests.Request.{Request}
+use Rattle.inquiry.specs.declared.requests.Request.TheVariants.{Dig, Trace}
+use Rattle.inquiry.specs.declared.requests.Reply.{Reply}
+use Rattle.inquiry.specs.declared.requests.Reply.TheVariants.{Traced}
+use Rattle.inquiry.proofs.Allowing.{trace_cases}
 use Rattle.asking.proofs.Judging.{bad_if_unsafe, unsafe_if_bad}
 use Rattle.std.proofs.Math.Seq.{drop-append_seam}
 use Rattle.recipe.specs.Offence.{first_offence, take_tests, check_tests}
@@ -56,19 +57,27 @@ few_if_fit X own n m =
 pub left_so : {A : Type 0} (o : Allowed) (e : Refusal) (a b old : A) → o ≡ Err e → unless o a old ≡ unless o b old
 left_so o e a b old is = ap (λ p. unless p a old) is ∙ sym (ap (λ p. unless p b old) is)
 
+-- a capped length fits in as much room as can be told exactly if it fits in all there is
+fits_alike : (n places : ℕ) → leb (capped n) (min 4294967295 places) ≡ leb (capped n) places
+fits_alike n places = grind (arith, nat_tests)
+
 -- an inquiry into a file under a rule, in tables of n and m places and with an output that holds this, of which k facts are worked and then the trace is asked for
 module _ (rule : Program → Rule) (bs : List ℕ) (n m : ℕ) (out : List ℕ) (k : ℕ) where
   abbrev X : Setting
   X = setting_in rule bs
 
   abbrev pub case_in : Opened
-  case_in = record { program = program_of bs; own = edges_of bs; rule = rule (program_of bs); watch = table_watch (program_of bs).rows; places = n; edge_places = m; output = out }
+  case_in = record { program = program_of bs; own = edges_of bs; rule = rule (program_of bs); watch = table_watch (program_of bs).rows; places = n; edge_places = m }
 
   abbrev pub first_asked : List Request
   first_asked = Dig k ∷ []
 
+  -- as much room is asked for as can be, so the trace has that of the output
+  abbrev room : ℕ
+  room = min 4294967295 (length out)
+
   abbrev pub all_asked : List Request
-  all_asked = Dig k ∷ Trace ∷ []
+  all_asked = Dig k ∷ Trace room ∷ []
 
   abbrev worked : Search
   worked = dug X n k (opened X n)
@@ -76,35 +85,35 @@ module _ (rule : Program → Rule) (bs : List ℕ) (n m : ℕ) (out : List ℕ) 
   abbrev found : Found
   found = found_by X worked (length out)
 
-  -- a trace leaves the search as it was
+  -- which is all the room there is, for a length that can be told
+  room_is : trace_allowed X.watch worked room ≡ trace_allowed X.watch worked (length out)
+  room_is = ap (λ b. cond (any_bad X.watch worked.rows) (cond (b && ltb (trace_length X.watch worked) 4294967295) (Ok tt) (Err (LongTrace (trace_length X.watch worked)))) (Err NotUnsafe)) same
+    where
+      same : leb (trace_length X.watch worked) room ≡ leb (trace_length X.watch worked) (length out)
+      same = fits_alike (length (first_trace X.watch worked.rows)) (length out)
+
+  -- a trace leaves the inquiry as it was
   pub search_is : (after case_in all_asked).search ≡ worked
   unfolding after_from
-  search_is =
-      let s = step case_in (begun case_in) (Dig k) in
-      let written : Standing = record { edges = s.edges; search = s.search; output = trace_output case_in.watch s.search s.output } in
-      by_allowed (λ o. (unless {A = Standing} o written s).search ≡ s.search) (may_trace case_in s) refl (λ why. refl)
+  search_is = refl
 
   pub edges_are : (after case_in all_asked).edges ≡ edges_of bs
   unfolding after_from
-  edges_are =
-      let s = step case_in (begun case_in) (Dig k) in
-      let written : Standing = record { edges = s.edges; search = s.search; output = trace_output case_in.watch s.search s.output } in
-      by_allowed (λ o. (unless {A = Standing} o written s).edges ≡ s.edges) (may_trace case_in s) refl (λ why. refl)
+  edges_are = refl
 
   -- and the output with the trace, if it is written
-  pub output_is : (after case_in all_asked).output ≡ with_trace found.trace out
-  unfolding after_from
+  pub output_is : output_after case_in all_asked out ≡ with_trace found.trace out
+  unfolding output_from after_from
   output_is =
-      let s = step case_in (begun case_in) (Dig k) in
-      let written : Standing = record { edges = s.edges; search = s.search; output = trace_output case_in.watch s.search s.output } in
-      by_allowed (λ o. (unless {A = Standing} o written s).output ≡ with_trace (answered o (first_trace X.watch worked.rows)) out) (may_trace case_in s) refl (λ why. refl)
+      by_allowed (λ o. unless o (trace_output X.watch worked out) out ≡ with_trace (answered o (first_trace X.watch worked.rows)) out) (trace_allowed X.watch worked room) refl (λ why. refl)
+      ∙ ap (λ o. with_trace (answered o (first_trace X.watch worked.rows)) out) room_is
 
   -- the second reply is the one to the request for the trace, and tells its length
   pub reply_is : (o : Allowed) (log : List (Result Reply Refusal)) (d : Result Reply Refusal) → o ≡ Ok tt → log ≡ recorded o case_in all_asked ++ [] → written_of (get_or log 1 d) ≡ told_length found.trace
   unfolding after_from replies_from
   reply_is o log d ok is =
-      let second : get_or log 1 d ≡ asked case_in first_asked Trace = ap (λ xs. get_or xs 1 d) (is ∙ ap (λ p. recorded p case_in all_asked ++ []) ok) in
-      ap written_of second
+      let second : get_or log 1 d ≡ asked case_in first_asked (Trace room) = ap (λ xs. get_or xs 1 d) (is ∙ ap (λ p. recorded p case_in all_asked ++ []) ok) in
+      ap written_of second ∙ ap (λ p. written_of (answered p (Traced (trace_length X.watch worked)))) room_is
       ∙ trace_cases X.watch worked (length out) (λ p. written_of (answered p (Traced (trace_length X.watch worked))) ≡ told_length (answered p (first_trace X.watch worked.rows)))
       (λ _ _ _ same. ap Ok same) (λ _ _. refl) (λ _. refl)
 

@@ -1,8 +1,8 @@
 -- What the parts of a judging answer: contracts of private functions. Nothing that a caller is promised rests on it.
 use Rattle.std.specs.Prelude.{ℕ, List, take, Ok, Err, Result}
 use Rattle.recipe.specs.declared.grounds.Refusal.{Refusal}
-use Rattle.asking.specs.Histories.{written_by}
-use Rattle.asking.specs.declared.requests.Reply.{Reply}
+use Rattle.inquiry.specs.Histories.{written_by}
+use Rattle.inquiry.specs.declared.requests.Reply.{Reply}
 
 -- how many nodes a reply says were written, or why none were
 abbrev pub written_of : Result Reply Refusal → Result ℕ Refusal

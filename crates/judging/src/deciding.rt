@@ -45,7 +45,7 @@ fn inquired<R: AccessRule>(
         watch: &watch,
     };
     let allowed = facts.len().min(MOST_FACTS) as u32;
-    let requests = [Request::Dig { allowed }, Request::Trace];
+    let requests = [Request::Dig { allowed }, Request::Trace { room: u32::MAX }];
     let mut replies = [Err(Refusal::NotUnsafe), Err(Refusal::NotUnsafe)];
     let report = ask(&on, facts, edges, output, &requests, &mut replies)?;
     let trace = written(replies[1]);

@@ -6,9 +6,8 @@ use Rattle.recipe.specs.Bytes.{edges_of}
 use Rattle.model.specs.Tables.{Search, dug, opened}
 use Rattle.inquiry.specs.Calls.{answered, unless, report_of}
 use Rattle.inquiry.proofs.Allowed.{refused_so, answered_so}
-use Rattle.asking.specs.declared.requests.Reply.TheVariants.{Dug}
-use Rattle.asking.specs.Asked.{fit_of}
-use Rattle.asking.specs.Histories.{after}
+use Rattle.inquiry.specs.declared.requests.Reply.TheVariants.{Dug}
+use Rattle.inquiry.specs.Histories.{fit_of, after, output_after}
 use Rattle.judging.specs.Judged.{setting_in, searched, found_by, found_in, outcome_of, over, with_trace}
 use Rattle.judging.proofs.Fitting.{case_in, all_asked, few_if_fit, left_so, search_is, edges_are, output_is, reply_is}
 use Rattle.judging.proofs.deciding.inquired.Goals as goal
@@ -28,7 +27,7 @@ returns-in_err-report g c =
       answer = e.1 ∙ ap Err e.2 ∙ sym (ap (λ o. answered o (outcome_of found)) refused);
       facts = c.ask.ensures.facts ∙ left_so (fit_of C) _ (over (after C asked).search.rows c.args.facts.now) (over (searched rule n bs).rows c.args.facts.now) c.args.facts.now refused;
       edges = c.ask.ensures.edges ∙ left_so (fit_of C) _ (over (after C asked).edges c.args.edges.now) (over (edges_of bs) c.args.edges.now) c.args.edges.now refused;
-      output = c.ask.ensures.output ∙ left_so (fit_of C) _ (after C asked).output (with_trace found.trace out) out refused;
+      output = c.ask.ensures.output ∙ left_so (fit_of C) _ (output_after C asked out) (with_trace found.trace out) out refused;
     }
 
 pub returns : goal.returns
