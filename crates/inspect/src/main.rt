@@ -1,6 +1,7 @@
 // Reads a recipe file from standard input and says in words what it holds, or why it is refused.
 #![tactic(auto)]
 
+use explaining::explain;
 use recipe::{Edge, Recipe, recipe_of};
 use showing::Refused;
 use std::io::Read;
@@ -46,7 +47,11 @@ fn inspect(rt: &HostRuntime, file: &[u8]) -> anyhow::Result<()> {
         Ok(recipe) => recipe,
         Err(refusal) => {
             let number = Refused(refusal);
-            return Ok(println!(rt; "{number}: {refusal}")?);
+            println!(rt; "{number}: {refusal}")?;
+            if let Some(why) = explain(file, refusal) {
+                println!(rt; "{why}")?;
+            }
+            return Ok(());
         }
     };
     let edges: Vec<Edge> = recipe.own_edges().collect(rt.alloc())?;

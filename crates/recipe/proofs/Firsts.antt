@@ -2,49 +2,48 @@
 use Rattle.std.proofs.Common.{◌≡◌, ℕ, zero, suc, ◌+◌, ◌<◌, ◌≤◌, Bool, true, false, cond, List, [], ◌∷◌, ◌++◌, map, Some, None, Option, sym, refl, ap, ◌∙◌, add-zero, zero-add, arith}
 use Rattle.std.specs.List.{range_with_len}
 use Rattle.std.specs.Option.{option_or}
-use Rattle.recipe.specs.declared.grounds.Refusal.{Refusal}
 use Rattle.recipe.specs.Offence.{first_offence, each}
 
-pub offence_here : (t : Bool) (r : Refusal) (ts : List (Bool × Refusal)) → t ≡ false → first_offence ((t, r) ∷ ts) ≡ Some r
+pub offence_here : {R : Type 0} (t : Bool) (r : R) (ts : List (Bool × R)) → t ≡ false → first_offence ((t, r) ∷ ts) ≡ Some r
 unfolding first_offence
 offence_here t r ts e = rw e
 
-pub offence_past : (t : Bool) (r : Refusal) (ts : List (Bool × Refusal)) → t ≡ true → first_offence ((t, r) ∷ ts) ≡ first_offence ts
+pub offence_past : {R : Type 0} (t : Bool) (r : R) (ts : List (Bool × R)) → t ≡ true → first_offence ((t, r) ∷ ts) ≡ first_offence ts
 unfolding first_offence
 offence_past t r ts e = rw e
 
 -- where nothing is refused, the first test passed, and nothing is refused of the rest
-pub passed : (t : Bool) (r : Refusal) (ts : List (Bool × Refusal)) → first_offence ((t, r) ∷ ts) ≡ None → (t ≡ true) × (first_offence ts ≡ None)
+pub passed : {R : Type 0} (t : Bool) (r : R) (ts : List (Bool × R)) → first_offence ((t, r) ∷ ts) ≡ None → (t ≡ true) × (first_offence ts ≡ None)
 unfolding first_offence
 passed true r ts e = (refl, e)
 passed false r ts e = cc
 
-pub offence_append : (xs ys : List (Bool × Refusal)) → first_offence (xs ++ ys) ≡ option_or (first_offence xs) (first_offence ys)
+pub offence_append : {R : Type 0} (xs ys : List (Bool × R)) → first_offence (xs ++ ys) ≡ option_or (first_offence xs) (first_offence ys)
 unfolding first_offence
 offence_append [] ys = refl
-offence_append (t ∷ xs) ys = step t.0 t.1 (offence_append xs ys)
+offence_append {R} (t ∷ xs) ys = step t.0 t.1 (offence_append xs ys)
   where
-    step : (b : Bool) (r : Refusal) → first_offence (xs ++ ys) ≡ option_or (first_offence xs) (first_offence ys) → cond b (first_offence (xs ++ ys)) (Some r) ≡ option_or (cond b (first_offence xs) (Some r)) (first_offence ys)
+    step : (b : Bool) (r : R) → first_offence (xs ++ ys) ≡ option_or (first_offence xs) (first_offence ys) → cond b (first_offence (xs ++ ys)) (Some r) ≡ option_or (cond b (first_offence xs) (Some r)) (first_offence ys)
     step true r h = h
     step false r h = refl
 
 -- the first list's offence comes first; where it has none, the second's does
-pub first_of_two : (xs ys : List (Bool × Refusal)) (r : Refusal) → first_offence xs ≡ Some r → first_offence (xs ++ ys) ≡ Some r
+pub first_of_two : {R : Type 0} (xs ys : List (Bool × R)) (r : R) → first_offence xs ≡ Some r → first_offence (xs ++ ys) ≡ Some r
 first_of_two xs ys r e = offence_append xs ys ∙ ap (λ o. option_or o (first_offence ys)) e
 
-pub second_of_two : (xs ys : List (Bool × Refusal)) → first_offence xs ≡ None → first_offence (xs ++ ys) ≡ first_offence ys
+pub second_of_two : {R : Type 0} (xs ys : List (Bool × R)) → first_offence xs ≡ None → first_offence (xs ++ ys) ≡ first_offence ys
 second_of_two xs ys e = offence_append xs ys ∙ ap (λ o. option_or o (first_offence ys)) e
 
 -- where nothing is refused of two lists, nothing is refused of either
-pub none_of_both : (xs ys : List (Bool × Refusal)) → first_offence (xs ++ ys) ≡ None → (first_offence xs ≡ None) × (first_offence ys ≡ None)
-none_of_both xs ys e = split (first_offence xs) refl
+pub none_of_both : {R : Type 0} (xs ys : List (Bool × R)) → first_offence (xs ++ ys) ≡ None → (first_offence xs ≡ None) × (first_offence ys ≡ None)
+none_of_both {R} xs ys e = split (first_offence xs) refl
   where
-    split : (o : Option Refusal) → first_offence xs ≡ o → (first_offence xs ≡ None) × (first_offence ys ≡ None)
+    split : (o : Option R) → first_offence xs ≡ o → (first_offence xs ≡ None) × (first_offence ys ≡ None)
     split None f = (f, let h = offence_append xs ys in cc)
     split (Some r) f = let h = offence_append xs ys in cc
 
-module _ (f : ℕ → Bool) (g : ℕ → Refusal) where
-  abbrev test : ℕ → Bool × Refusal
+module _ {R : Type 0} (f : ℕ → Bool) (g : ℕ → R) where
+  abbrev test : ℕ → Bool × R
   test k = (f k, g k)
 
   first_from : (n a k : ℕ) → k < n → ((j : ℕ) → j < k → f (a + j) ≡ true) → f (a + k) ≡ false → first_offence (map test (range_with_len a n)) ≡ Some (g (a + k))

@@ -53,13 +53,13 @@ detail_of (NotAStep place) = place
 detail_of (StackFull place) = place
 detail_of (ShortOutput needed) = needed
 
--- the refusal of the first test that fails
-unfoldable pub first_offence : List (Bool × Refusal) → Option Refusal
+-- of tests, each with what its failure is called, what the first one that fails is called
+unfoldable pub first_offence : {R : Type 0} → List (Bool × R) → Option R
 first_offence [] = None
 first_offence (t ∷ ts) = cond t.0 (first_offence ts) (Some t.1)
 
 -- one test for each number below n
-abbrev pub each : ℕ → (ℕ → Bool) → (ℕ → Refusal) → List (Bool × Refusal)
+abbrev pub each : {R : Type 0} → ℕ → (ℕ → Bool) → (ℕ → R) → List (Bool × R)
 each n passes refusal = listed (λ k. (passes k, refusal k)) n
 
 -- the test passes at each number below n; at some number below n

@@ -7,6 +7,8 @@ mod answers;
 #[cfg(test)]
 mod checking;
 #[cfg(test)]
+mod explained;
+#[cfg(test)]
 mod extremes;
 #[cfg(test)]
 mod keeping;

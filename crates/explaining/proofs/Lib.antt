@@ -1,0 +1,4 @@
+pub mod Forms
+pub mod Kept
+pub mod Law
+pub mod Nodes
