@@ -13,7 +13,7 @@ use Rattle.model.specs.Searches.{Through}
 use Rattle.model.specs.Tables.{Search, pending, any_bad}
 use Rattle.model.proofs.Verdicts.{search_laws}
 use Rattle.model.proofs.Lists.{has_here}
-use Rattle.walker.proofs.Walks.{has_edge_decides}
+use Rattle.model.proofs.Listed.{listed_decides}
 use Rattle.inquiry.specs.Calls.{answered}
 use Rattle.inquiry.specs.declared.requests.Request.{Request}
 use Rattle.inquiry.specs.declared.requests.Request.TheVariants.{Dig, Link}
@@ -60,7 +60,7 @@ module _ (C : Opened) (ls : List Edge) (top : Standing) (k : Keeps C ls top) (th
       let m = ap length split in
       link_passes C.program s.edges C.edge_places s.search.full e (k.right e has)
       (false_from_ne_true (is_listed (counted C.program s.edges) e) (λ listed.
-      ⊎_elim (k.new e has) (behind_others done todo e (subst (IsDistinct same_edge) (sym split) k.apart)) (Contains-append_cases own done e (h.counts e ((has_edge_decides (counted C.program s.edges) e.from e.to).0 listed)))))
+      ⊎_elim (k.new e has) (behind_others done todo e (subst (IsDistinct same_edge) (sym split) k.apart)) (Contains-append_cases own done e (h.counts e ((listed_decides (counted C.program s.edges) e.from e.to).0 listed)))))
       (⊎_elim (λ none. absurd (let z = ap length none in omega arith)) (λ space. omega arith) k.room)
       (some_free done (e ∷ todo) s split h)
 

@@ -1,30 +1,30 @@
 -- What each request keeps: the search is sound, and the edge table is that of the opening with the accepted links.
-use Rattle.std.proofs.Common.{◌≡◌, ℕ, ◌+◌, ◌<◌, ◌≤◌, Bool, true, false, ◌&&◌, eqb, ◌⊎◌, List, [], ◌∷◌, ◌++◌, length, Ok, Err, sym, refl, ◌∙◌, subst, inl, inr, ⊎_elim, arith, append_assoc, append-nil, ap, IsPermutation, Contains}
+use Rattle.std.proofs.Common.{◌≡◌, ℕ, ◌+◌, ◌<◌, ◌≤◌, Bool, true, false, ◌&&◌, eqb, ◌⊎◌, List, [], ◌∷◌, ◌++◌, length, sym, refl, ◌∙◌, subst, inl, inr, ⊎_elim, arith, append_assoc, append-nil, ap, IsPermutation, Contains}
 use Rattle.std.specs.Cmp.{IsEquivalence}
 use Rattle.std.specs.List.{IsDistinct}
-use Rattle.std.proofs.lemmas.Bool.{both_ways, false_from_ne_true}
+use Rattle.std.proofs.lemmas.Bool.{false_from_ne_true}
 use Rattle.std.proofs.lemmas.Bool.Decides.{nat_tests, not_from_Decides}
 use Rattle.std.proofs.lemmas.List.{length_push, nil_from_length}
 use Rattle.std.proofs.lemmas.List.Sorted.{IsPermutation-sym, IsPermutation-append_right, length_permutation, Contains-permutation}
 use Rattle.std.proofs.lemmas.Map.Keys.{IsDistinct-push, IsDistinct-IsPermutation}
 use Rattle.std.proofs.lemmas.List.Elements.{Contains-append_left, Contains-append_right, Contains-push, Contains-push_cases}
 use Rattle.model.specs.declared.Edge.{Edge}
-use Rattle.recipe.specs.declared.grounds.Refusal.TheVariants.{NotAnEdge, EdgeHeld, EdgesFull, InquiryFull}
 use Rattle.model.specs.Links.{Among, is_listed, linked}
 use Rattle.model.specs.Program.{EdgeRules, is_edge, counted, Leads}
 use Rattle.model.specs.Searches.{Sound}
-use Rattle.model.proofs.Edges.{edge_passes, edge_rules}
+use Rattle.model.proofs.Edges.{edge_rules}
 use Rattle.model.proofs.Links.{link_laws}
 use Rattle.model.proofs.Verdicts.{search_laws}
-use Rattle.walker.proofs.Walks.{has_edge_decides}
+use Rattle.model.proofs.Listed.{listed_decides}
 use Rattle.inquiry.specs.Calls.{answered, unless}
 use Rattle.inquiry.specs.declared.requests.Request.{Request}
 use Rattle.inquiry.specs.declared.requests.Request.TheVariants.{Dig, Link, Verdict, Trace}
 use Rattle.inquiry.specs.declared.requests.Reply.{Reply}
 use Rattle.inquiry.specs.declared.requests.Reply.TheVariants.{Linked}
-use Rattle.inquiry.specs.Histories.{Opened, with_table, Standing, begun, dug_at, answer, step, after_from, replies_from, accepted_one, accepted, after, links}
-use Rattle.asking.specs.Law.{LinkAnswer}
-use Rattle.inquiry.proofs.Allowing.{linked_at, link_cases, link_passes, link_grounds}
+use Rattle.inquiry.specs.Histories.{Opened, with_table, Standing, begun, may_link, dug_at, answer, step, after_from, replies_from, accepted_one, accepted, after, links}
+use Rattle.inquiry.specs.Grounds.{LinkAnswer}
+use Rattle.inquiry.proofs.Grounds.{answer_laws}
+use Rattle.inquiry.proofs.Allowing.{linked_at, link_cases}
 
 -- one edge is another, as a test
 abbrev pub same_edge : Edge → Edge → Bool
@@ -92,7 +92,7 @@ module _ (C : Opened) where
 
     -- the new one is none of those
     link_other : Contains (own ++ ls) e → ⊥
-    link_other old = not_from_Decides (is_listed before e) (has_edge_decides before e.from e.to) fresh (h.has e old)
+    link_other old = not_from_Decides (is_listed before e) (listed_decides before e.from e.to) fresh (h.has e old)
 
     -- no link is one that counted at the opening, and no two are the same
     link_new : (d : Edge) → Contains (ls ++ e ∷ []) d → Contains own d → ⊥
@@ -101,7 +101,7 @@ module _ (C : Opened) where
     link_apart : IsDistinct same_edge (ls ++ e ∷ [])
     link_apart =
         IsDistinct-push same_edge_laws ls e h.apart
-        (false_from_ne_true (is_listed ls e) (λ listed. link_other (Contains-append_right own ls e ((has_edge_decides ls e.from e.to).0 listed))))
+        (false_from_ne_true (is_listed ls e) (λ listed. link_other (Contains-append_right own ls e ((listed_decides ls e.from e.to).0 listed))))
 
     -- so all that is kept, where the table has a place and the search is not full
     keeps_link : length s.edges < C.edge_places → s.search.full ≡ false → Keeps C (ls ++ e ∷ []) (linked_at C s e)
@@ -134,37 +134,21 @@ module _ (C : Opened) where
   keeps_step ls s Verdict h = subst (λ es. Keeps C es s) (sym (append-nil ls)) h
   keeps_step ls s (Trace room) h = subst (λ es. Keeps C es s) (sym (append-nil ls)) h
 
-  -- what a link is answered: accepted where no ground for a refusal holds, and else refused with one that does
+  -- what a link is answered, in terms of the linked recipe: its edges are those of the table that count
   pub keeps_linked : (ls : List Edge) (s : Standing) (from to : ℕ) → Keeps C ls s → LinkAnswer C.program (counted C.program C.own ++ ls) (length C.own + length ls) C.edge_places s.search.full from to (answer C s (Link from to))
-  keeps_linked ls s from to h = record {
-    accepts = λ rules new room free. ap (λ o. answered o (Linked (length s.edges + 1))) (link_passes C.program s.edges C.edge_places s.search.full e (edge_passes C.program e rules) (unlisted new) (let n = h.long in omega arith) free) ∙ ap (λ n. Ok (Linked (n + 1))) h.long;
-    accepted = λ reply.
-        link_cases C.program s.edges C.edge_places s.search.full e
-        (λ o. answered o (Linked (length s.edges + 1)) ≡ Ok reply → EdgeRules C.program e × (Leads (own ++ ls) from to → ⊥) × (length C.own + length ls < C.edge_places) × (s.search.full ≡ false) × (reply ≡ Linked (length C.own + length ls + 1)))
-        (λ right new room free is.
-        let told : reply ≡ Linked (length s.edges + 1) = cc in
-        (edge_rules C.program e right, link_other ls s e h right new, (let n = h.long in omega arith), free, told ∙ ap (λ n. Linked (n + 1)) h.long))
-        (λ why is. absurd (let z : ◌≡◌ {A = ℕ} 0 1 = cc in omega arith));
-    no_edge = λ is rules. both_ways (is_edge C.program e) (grounds.0 is) (edge_passes C.program e rules);
-    held = λ is. h.counts e ((has_edge_decides (counted C.program s.edges) from to).0 (grounds.1 is));
-    no_place = λ is. let n = h.long in let m = grounds.2 is in omega arith;
-    full_up = grounds.3;
-  }
-    where
-      e : Edge
-      e = record { from = from; to = to }
-
-      own : List Edge
-      own = counted C.program C.own
-
-      -- what is none of the linked recipe's edges is none of those that count
-      unlisted : (Leads (own ++ ls) from to → ⊥) → is_listed (counted C.program s.edges) e ≡ false
-      unlisted new = false_from_ne_true (is_listed (counted C.program s.edges) e) (λ listed. new (h.counts e ((has_edge_decides (counted C.program s.edges) from to).0 listed)))
-
-      -- the ground of each refusal
-      grounds : (answer C s (Link from to) ≡ Err NotAnEdge → is_edge C.program e ≡ false) × (answer C s (Link from to) ≡ Err EdgeHeld → is_listed (counted C.program s.edges) e ≡ true)
-          × (answer C s (Link from to) ≡ Err EdgesFull → C.edge_places ≤ length s.edges) × (answer C s (Link from to) ≡ Err InquiryFull → s.search.full ≡ true)
-      grounds = link_grounds C.program s.edges C.edge_places s.search.full e (Linked (length s.edges + 1))
+  keeps_linked ls s from to h =
+      let told = subst (λ n. LinkAnswer C.program (counted C.program s.edges) n C.edge_places s.search.full from to (answered (may_link C s from to) (Linked (n + 1)))) h.long (answer_laws.links C.program s.edges C.edge_places s.search.full from to) in
+      let back = ap (λ n. answered (may_link C s from to) (Linked (n + 1))) (sym h.long) in
+      let e : Edge = record { from = from; to = to } in
+      subst (LinkAnswer C.program (counted C.program C.own ++ ls) (length C.own + length ls) C.edge_places s.search.full from to) back
+      (record {
+        accepts = λ rules new. told.accepts rules (λ there. new (h.counts e there));
+        accepted = λ reply is. let a = told.accepted reply is in (a.0, (λ there. a.1 (h.has e there)), a.2, a.3, a.4);
+        no_edge = told.no_edge;
+        held = λ is. h.counts e (told.held is);
+        no_place = told.no_place;
+        full_up = told.full_up;
+      })
 
   -- with any requests from there on
   keeps_from : (ls : List Edge) (s : Standing) (rs : List Request) → Keeps C ls s → Keeps C (ls ++ accepted rs (replies_from C s rs)) (after_from C s rs)

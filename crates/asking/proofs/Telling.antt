@@ -20,7 +20,8 @@ use Rattle.inquiry.specs.declared.requests.Request.TheVariants.{Dig, Link, Verdi
 use Rattle.inquiry.specs.declared.requests.Reply.{Reply}
 use Rattle.inquiry.specs.declared.requests.Reply.TheVariants.{Dug, Linked, Judged, Traced}
 use Rattle.inquiry.specs.Histories.{Opened, Standing, begun, may_link, may_trace, answer, step, output_by, output_from, output_after, after_from, after, asked, replies_from, replies, accepted, links, linked_recipe}
-use Rattle.asking.specs.Law.{Law, Says, Walks, Shown, IsRight, DigAnswer, LinkAnswer, is_full, facts_after, finished_in, anew}
+use Rattle.inquiry.specs.Grounds.{LinkAnswer, DigAnswer}
+use Rattle.asking.specs.Law.{Law, Says, Walks, Shown, IsRight, is_full, facts_after, finished_in, anew}
 use Rattle.asking.specs.Recorded.{no_reply, request_at, reply_at, links_at, linked_at as linked_then, ShowsBad, TraceAnswer, ShownFrom, FactsLeft, AllFactsLeft, RecordTells}
 use Rattle.model.proofs.Edges.{counted_rules}
 use Rattle.inquiry.proofs.Allowed.{by_allowed}
@@ -169,7 +170,7 @@ module _ (C : Opened) (rs : List Request) (log rest : List (Result Reply Refusal
         let r = request_at rs i in
         let later = replies_from C (step C (after C (before i)) r) behind in
         let parts : log ≡ replies C (before i) ++ asked C (before i) r ∷ (later ++ rest) =
-            log_is ∙ ap (λ qs. replies C qs ++ rest) (parted rs i Verdict lt) ∙ ap (λ log. log ++ rest) (replies_more C (begun C) (before i) (r ∷ behind)) ∙ append_assoc (replies C (before i)) (asked C (before i) r ∷ later) rest in
+        log_is ∙ ap (λ qs. replies C qs ++ rest) (parted rs i Verdict lt) ∙ ap (λ log. log ++ rest) (replies_more C (begun C) (before i) (r ∷ behind)) ∙ append_assoc (replies C (before i)) (asked C (before i) r ∷ later) rest in
         ap (λ answers. reply_at answers i) parts ∙ get_or_at (replies C (before i)) (asked C (before i) r) (later ++ rest) no_reply i (log_long i here)
 
     -- a reply with a verdict says that it is the verdict there
@@ -204,11 +205,11 @@ module _ (C : Opened) (rs : List Request) (log rest : List (Result Reply Refusal
       law.ending (before i) ss k enough (ap (links C) (sym front) ∙ sym (links_are j (omega arith)) ∙ same ∙ links_are i (omega arith)) (subst (λ qs. Says C qs Unfinished) front (replied j few Unfinished e))
 
   -- what a dig and a link were answered
-  dug_then : (i k : ℕ) → i < length rs → request_at rs i ≡ Dig k → (d : Finished) × (reply_at log i ≡ Ok (Dug d)) × DigAnswer C (take (i + 1) rs) k d
+  dug_then : (i k : ℕ) → i < length rs → request_at rs i ≡ Dig k → (d : Finished) × (reply_at log i ≡ Ok (Dug d)) × DigAnswer k (after C (before i)).search (after C (take (i + 1) rs)).search d
   dug_then i k lt dig =
       let told = law.dug (before i) k in
       let front : take (i + 1) rs ≡ before i ++ Dig k ∷ [] = take_more rs i Verdict lt ∙ ap (λ r. before i ++ r ∷ []) dig in
-      (told.0, answers i lt ∙ ap (asked C (before i)) dig ∙ told.1, subst (λ qs. DigAnswer C qs k told.0) (sym front) told.2)
+      (told.0, answers i lt ∙ ap (asked C (before i)) dig ∙ told.1, subst (λ qs. DigAnswer k (after C (before i)).search (after C qs).search told.0) (sym front) told.2)
 
   linked_answer : (i from to : ℕ) → i < length rs → request_at rs i ≡ Link from to
       → LinkAnswer C.program (linked_then C rs log i).edges (length C.own + length (links_at rs log i)) C.edge_places (is_full C (before i)) from to (reply_at log i)
@@ -249,11 +250,14 @@ module _ (C : Opened) (rs : List Request) (log rest : List (Result Reply Refusal
 
     -- one list is shown from a reply on that shows a bad fact
     shown_from : (i : ℕ) → i < length rs → ShowsBad (reply_at log i) → (t : List ℕ) × ShownFrom C rs log output i t
-    shown_from i lt bad = (t, record {
-      bad = λ j le few. subst (λ X. BadTrace X t) (linked_there j le few) (found.1.bad (take (j - i) (drop i rs)));
-      walks = λ j le few. subst (λ X. Walks X t) (linked_there j le few) (found.1.walks (take (j - i) (drop i rs)));
-      traces = λ j room. trace_tells i t found.1 j room;
-    })
+    shown_from i lt bad = (
+      t,
+      record {
+        bad = λ j le few. subst (λ X. BadTrace X t) (linked_there j le few) (found.1.bad (take (j - i) (drop i rs)));
+        walks = λ j le few. subst (λ X. Walks X t) (linked_there j le few) (found.1.walks (take (j - i) (drop i rs)));
+        traces = λ j room. trace_tells i t found.1 j room;
+      },
+    )
       where
         found : (t : List ℕ) × Shown C (before i) t
         found = law.shown (before i) (replied_bad i lt bad)

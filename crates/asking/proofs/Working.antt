@@ -11,7 +11,9 @@ use Rattle.inquiry.specs.declared.requests.Reply.TheVariants.{Dug, Linked, Trace
 use Rattle.inquiry.specs.declared.requests.Request.{Request}
 use Rattle.inquiry.specs.declared.requests.Request.TheVariants.{Dig, Link, Verdict, Trace}
 use Rattle.inquiry.specs.Histories.{Opened, with_table, Standing, begun, may_link, may_trace, dug_at, answer, step, after_from, after, asked, replies_from, replies}
-use Rattle.asking.specs.Law.{is_full, facts_after, finished_by, finished_in, DigAnswer}
+use Rattle.inquiry.specs.Grounds.{DigAnswer}
+use Rattle.inquiry.proofs.Grounds.{answer_laws}
+use Rattle.asking.specs.Law.{is_full, facts_after, finished_by, finished_in}
 use Rattle.inquiry.proofs.Allowed.{by_allowed}
 use Rattle.inquiry.proofs.Allowing.{linked_at}
 use Rattle.inquiry.proofs.Going.{after_more, after_one}
@@ -65,38 +67,8 @@ module _ (C : Opened) where
   stays_filled rs ss full = let still = full_stays rs ss full in (still, facts_count (rs ++ ss) ∙ ((keeps C (rs ++ ss)).sound.beyond still).0)
 
   -- what a dig is answered
-  pub dig_answered : (rs : List Request) (k : ℕ) → (d : Finished) × (asked C rs (Dig k) ≡ Ok (Dug d)) × DigAnswer C (rs ++ Dig k ∷ []) k d
-  dig_answered rs k = (dug_from s.search t, refl, record { held = held; few = few; all = all })
-    where
-      s : Standing
-      s = after C rs
-
-      t : Search
-      t = dug_at C s k
-
-      then : (after C (rs ++ Dig k ∷ [])).search ≡ t
-      then = ap (λ (u : Standing). u.search) (after_one C rs (Dig k))
-
-      held : length t.rows ≡ length (facts_after C (rs ++ Dig k ∷ []))
-      held = ap (λ (u : Search). length u.rows) (sym then) ∙ sym (facts_count (rs ++ Dig k ∷ []))
-
-      few : t.worked - s.search.worked ≤ k
-      few = let most = search_laws.allows (with_table C s.edges) C.places k s.search in omega arith
-
-      -- where fewer were finished nothing is left to work, so the table is full, or all that is held is worked
-      all : t.worked - s.search.worked < k → (is_full C (rs ++ Dig k ∷ []) ≡ true) ⊎ (finished_in 0 (replies C (rs ++ Dig k ∷ [])) ≡ length t.rows)
-      all less = by (cases_Bool t.full) (cases_lt t.worked (length t.rows))
-        where
-          idle : pending t ≡ false
-          idle = false_from_ne_true (pending t) (λ left. absurd (let whole = search_laws.finishes (with_table C s.edges) C.places k s.search left in omega arith))
-
-          worked : finished_in 0 (replies C (rs ++ Dig k ∷ [])) ≡ t.worked
-          worked = sym (worked_told (rs ++ Dig k ∷ [])) ∙ ap (λ (u : Search). u.worked) then
-
-          few_worked : t.worked ≤ length t.rows
-          few_worked = subst (λ (u : Search). u.worked ≤ length u.rows) then (keeps C (rs ++ Dig k ∷ [])).sound.some
-
-          by : (t.full ≡ true) ⊎ (t.full ≡ false) → (t.worked < length t.rows) ⊎ (length t.rows ≤ t.worked) → (is_full C (rs ++ Dig k ∷ []) ≡ true) ⊎ (finished_in 0 (replies C (rs ++ Dig k ∷ [])) ≡ length t.rows)
-          by (inl full) other = inl (ap (λ (u : Search). u.full) then ∙ full)
-          by (inr free) (inl more) = absurd (both_ways (pending t) idle (and_from (not t.full) (ltb t.worked (length t.rows)) (not_from_false t.full free) (lt-ltb t.worked (length t.rows) more)))
-          by (inr free) (inr through) = inr (worked ∙ omega (arith, few_worked))
+  pub dig_answered : (rs : List Request) (k : ℕ) → (d : Finished) × (asked C rs (Dig k) ≡ Ok (Dug d)) × DigAnswer k (after C rs).search (after C (rs ++ Dig k ∷ [])).search d
+  dig_answered rs k =
+      let s = after C rs in
+      let d = dug_from s.search (dug_at C s k) in
+      (d, refl, subst (λ (u : Standing). DigAnswer k s.search u.search d) (sym (after_one C rs (Dig k))) (answer_laws.digs (with_table C s.edges) C.places k s.search))

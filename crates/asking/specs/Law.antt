@@ -8,14 +8,15 @@ use Rattle.model.specs.declared.Verdict.TheVariants.{Safe, Unsafe, Full, Unfinis
 use Rattle.model.specs.Facts.{Setting, Yields, RunGoesBad}
 use Rattle.model.specs.Lawful.{Lawful}
 use Rattle.model.specs.Links.{Among}
-use Rattle.model.specs.Program.{Program, EdgeRules, Leads, counted}
+use Rattle.model.specs.Program.{counted}
 use Rattle.model.specs.Searches.{HeldAt, Different, BadTrace, first_trace, facts_of}
 use Rattle.model.specs.Tables.{capped, row_at}
 use Rattle.recipe.specs.declared.grounds.Refusal.{Refusal}
-use Rattle.recipe.specs.declared.grounds.Refusal.TheVariants.{NotAnEdge, EdgeHeld, EdgesFull, InquiryFull, NotUnsafe, LongTrace}
+use Rattle.recipe.specs.declared.grounds.Refusal.TheVariants.{NotUnsafe, LongTrace}
 use Rattle.walker.specs.declared.stands.Stand.{Stand}
 use Rattle.walker.specs.Accepted.{Enough}
 use Rattle.walker.specs.Walking.{replayed}
+use Rattle.inquiry.specs.Grounds.{LinkAnswer, DigAnswer}
 use Rattle.inquiry.specs.declared.reports.Dug.{Dug as Finished}
 use Rattle.inquiry.specs.declared.requests.Reply.{Reply}
 use Rattle.inquiry.specs.declared.requests.Reply.TheVariants.{Dug, Linked, Judged, Traced}
@@ -57,26 +58,6 @@ pub record IsRight (X : Setting) (places : ℕ) (v : Outcome) : Type 0 where
   -- full: it yields more facts than places
   pub full : v ≡ Full → (fs : List (Point × Point)) × (places < length fs) × Different X fs
 
--- a dig of k is answered so, and these requests led to where it ended
-pub record DigAnswer (C : Opened) (rs : List Request) (k : ℕ) (d : Finished) : Type 0 where
-  -- it tells how many facts are held, and has finished no more than k
-  pub held : d.held ≡ length (facts_after C rs)
-  pub few : d.finished ≤ k
-  -- it has finished fewer only where the table is full, or none is left to work
-  pub all : d.finished < k → (is_full C rs ≡ true) ⊎ (finished_in 0 (replies C rs) ≡ d.held)
-
--- a link is answered so, with these edges in the linked recipe, so many in use of the places, and a full inquiry or not
-pub record LinkAnswer (p : Program) (es : List Edge) (used places : ℕ) (full : Bool) (from to : ℕ) (a : Result Reply Refusal) : Type 0 where
-  -- it is accepted where no ground for a refusal holds, and its answer is how many edges there are then
-  pub accepts : EdgeRules p (record { from = from; to = to }) → (Leads es from to → ⊥) → used < places → full ≡ false → a ≡ Ok (Linked (used + 1))
-  -- and only there
-  pub accepted : (reply : Reply) → a ≡ Ok reply → EdgeRules p (record { from = from; to = to }) × (Leads es from to → ⊥) × (used < places) × (full ≡ false) × (reply ≡ Linked (used + 1))
-  -- each refusal has its ground
-  pub no_edge : a ≡ Err NotAnEdge → EdgeRules p (record { from = from; to = to }) → ⊥
-  pub held : a ≡ Err EdgeHeld → Leads es from to
-  pub no_place : a ≡ Err EdgesFull → places ≤ used
-  pub full_up : a ≡ Err InquiryFull → full ≡ true
-
 -- a walker accepts a list of nodes as a bad run, over any list of the same edges and any stack that is long enough
 abbrev pub Walks : Setting → List ℕ → Type 0
 Walks X t =
@@ -113,7 +94,7 @@ pub record Law (C : Opened) : Type 0 where
   -- digs in pieces come to what one dig comes to
   pub pieces : (rs : List Request) (j k : ℕ) → after C (rs ++ Dig j ∷ Dig k ∷ []) ≡ after C (rs ++ Dig (j + k) ∷ [])
   -- what digs and links are answered
-  pub dug : (rs : List Request) (k : ℕ) → (d : Finished) × (asked C rs (Dig k) ≡ Ok (Dug d)) × DigAnswer C (rs ++ Dig k ∷ []) k d
+  pub dug : (rs : List Request) (k : ℕ) → (d : Finished) × (asked C rs (Dig k) ≡ Ok (Dug d)) × DigAnswer k (after C rs).search (after C (rs ++ Dig k ∷ [])).search d
   pub linked : (rs : List Request) (from to : ℕ) → LinkAnswer C.program (linked_recipe C rs).edges (length C.own + length (links C rs)) C.edge_places (is_full C rs) from to (asked C rs (Link from to))
   -- as many facts are worked as were finished since the last accepted link
   pub worked : (rs : List Request) → (after C rs).search.worked ≡ finished_in 0 (replies C rs)

@@ -17,8 +17,9 @@ use Rattle.inquiry.specs.declared.requests.Reply.{Reply}
 use Rattle.inquiry.specs.declared.requests.Reply.TheVariants.{Dug, Linked, Judged, Traced}
 use Rattle.inquiry.specs.declared.requests.Request.{Request}
 use Rattle.inquiry.specs.declared.requests.Request.TheVariants.{Dig, Link, Verdict, Trace}
-use Rattle.inquiry.specs.Histories.{Opened, asked, accepted}
-use Rattle.asking.specs.Law.{Law, Walks, IsRight, DigAnswer, LinkAnswer, is_full, facts_after, finished_in, anew}
+use Rattle.inquiry.specs.Histories.{Opened, after, asked, accepted}
+use Rattle.inquiry.specs.Grounds.{LinkAnswer, DigAnswer}
+use Rattle.asking.specs.Law.{Law, Walks, IsRight, is_full, facts_after, finished_in, anew}
 
 -- what places past the end stand for
 abbrev pub no_reply : Result Reply Refusal
@@ -83,7 +84,7 @@ pub record RecordTells (C : Opened) (rs : List Request) (log : List (Result Repl
   pub full : (i : ℕ) → i < length rs → reply_at log i ≡ Ok (Judged Full) → report.held ≡ C.places
   pub ends_full : report.verdict ≡ Full → report.held ≡ C.places
   -- what digs and links were answered
-  pub dug : (i k : ℕ) → i < length rs → request_at rs i ≡ Dig k → (d : Finished) × (reply_at log i ≡ Ok (Dug d)) × DigAnswer C (take (i + 1) rs) k d
+  pub dug : (i k : ℕ) → i < length rs → request_at rs i ≡ Dig k → (d : Finished) × (reply_at log i ≡ Ok (Dug d)) × DigAnswer k (after C (take i rs)).search (after C (take (i + 1) rs)).search d
   pub linked : (i from to : ℕ) → i < length rs → request_at rs i ≡ Link from to
       → LinkAnswer C.program (linked_at C rs log i).edges (length C.own + length (links_at rs log i)) C.edge_places (is_full C (take i rs)) from to (reply_at log i)
   -- the report tells how many facts are held, and how many were finished since the last accepted link

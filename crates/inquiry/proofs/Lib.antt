@@ -5,6 +5,7 @@ pub mod Begun
 pub mod Chaining
 pub mod Filling
 pub mod Going
+pub mod Grounds
 pub mod Growing
 pub mod Hanging
 pub mod Links

@@ -1,4 +1,5 @@
 pub mod Calls
+pub mod Grounds
 pub mod Histories
 pub mod Inquiries
 pub mod Promises

@@ -10,6 +10,7 @@ mod digging;
 mod fitting;
 mod inquiring;
 mod joining;
+mod laws;
 mod leading;
 mod linking;
 mod offering;
@@ -25,6 +26,7 @@ mod working;
 
 pub use fitting::fit;
 pub use inquiring::inquire;
+pub use laws::answers_have_grounds;
 pub use model::{Fact, Verdict};
 use recipe::Refusal;
 pub use reports::{Dug, Report};

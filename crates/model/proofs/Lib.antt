@@ -6,6 +6,7 @@ pub mod Grounded
 pub mod Held
 pub mod Linking
 pub mod Links
+pub mod Listed
 pub mod Lists
 pub mod Nexts
 pub mod Offered

@@ -2,8 +2,6 @@
 use Rattle.std.proofs.Common.{◌≡◌, ℕ, ◌+◌, ◌-◌, ◌<◌, ◌≤◌, Bool, true, false, cond, ◌&&◌, eqb, ltb, leb, ◌⊎◌, List, [], ◌∷◌, ◌++◌, reverse, length, get_or, take, drop, set, is_ok, Some, None, Ok, Err, Decides, Option, Result, sym, refl, ap, ◌∙◌, subst, ap₂, inl, inr, arith, MatchResult}
 use Rattle.std.proofs.lemmas.List.{append-nil, append_assoc, reverse-append, length-set, length-take, length-reverse, length-append, length-take-le, get_or-set_same, take-append-drop, take_at, take_more, take_more_set, length_push}
 use Rattle.std.proofs.lemmas.Bool.{false≢true, both_ways, and_parts, and_from, and_left, and_right, le-leb, lt-leb, leb-true, leb-false, cases_lt, cond-true, cond_both}
-use Rattle.std.proofs.lemmas.Bool.Decides.{Decides-eqb, Decides-and, Decides-like, Decides-by_or}
-use Rattle.std.proofs.lemmas.List.Elements.{Decides-contains}
 use Rattle.model.specs.declared.Edge.{Edge}
 use Rattle.model.specs.declared.Frame.{Frame}
 use Rattle.model.specs.declared.Kind.{Kind}
@@ -13,6 +11,7 @@ use Rattle.model.specs.Agreement.{RunTrace}
 use Rattle.model.specs.Program.{Program, node_at, is_return, is_entry_of, Leads}
 use Rattle.model.specs.Runs.{Run, start, pass, enter, back, reads, goes_on, is_call}
 use Rattle.model.specs.Watches.{Watch}
+use Rattle.model.proofs.Listed.{listed_decides}
 use Rattle.model.proofs.Determined.{follows_from_trace, run_state}
 use Rattle.recipe.specs.declared.grounds.Refusal.{Refusal}
 use Rattle.recipe.specs.declared.grounds.Refusal.TheVariants.{NotAStep, StackFull}
@@ -22,12 +21,7 @@ use Rattle.walker.specs.Walking.{no_frame, has_edge, step_by, step_from, step_fi
 
 -- the test for an edge says what it should
 pub has_edge_decides : (es : List Edge) (a b : ℕ) → Decides (has_edge es a b) (Leads es a b)
-has_edge_decides es a b = Decides-contains es (record { from = a; to = b }) (has_edge es a b) (Decides-by_or (λ e. eqb e.from a && eqb e.to b) (λ e. e ≡ record { from = a; to = b }) (λ ds. has_edge ds a b) each refl (λ _ _. refl) es)
-  where
-    each : (e : Edge) → Decides (eqb e.from a && eqb e.to b) (e ≡ record { from = a; to = b })
-    each e =
-        Decides-like (eqb e.from a && eqb e.to b) (λ h. λ i. record { from = h.0 i; to = h.1 i }) (λ h. (ap (λ d. d.from) h, ap (λ d. d.to) h))
-        (Decides-and (eqb e.from a) (eqb e.to b) (Decides-eqb e.from a) (Decides-eqb e.to b))
+has_edge_decides es a b = listed_decides es a b
 
 -- one frame more on top
 reverse_push : {A : Type 0} (xs : List A) (x : A) → reverse (xs ++ x ∷ []) ≡ x ∷ reverse xs

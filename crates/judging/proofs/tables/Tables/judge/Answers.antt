@@ -50,8 +50,8 @@ returns c =
     let history_kept = take_at c.judge_in.new.history (drop (length c.judge_in.new.history) c.args.self.history.items) c.args.self.history.len history_long ∙ history in
     let stack_kept = take_at c.judge_in.new.stack (drop (length c.judge_in.new.stack) c.args.self.stack.items) c.args.self.stack.len stack_long ∙ stack in
     let found_history : shown c.finding.result ≡ both.0 =
-        c.finding.ensures ∙ (λ i. record { report = (good.0 i).history.report; trace = nodes_written (history_kept i) (good.0 i).history.trace }) ∙ ap (λ t. record { report = both.0.report; trace = t }) (written_is both.0.trace c.deref_mut-3.result.now) in
+    c.finding.ensures ∙ (λ i. record { report = (good.0 i).history.report; trace = nodes_written (history_kept i) (good.0 i).history.trace }) ∙ ap (λ t. record { report = both.0.report; trace = t }) (written_is both.0.trace c.deref_mut-3.result.now) in
     let found_stack : shown c.finding-2.result ≡ both.1 =
-        c.finding-2.ensures ∙ (λ i. record { report = (good.0 i).stack.report; trace = nodes_written (stack_kept i) (good.0 i).stack.trace }) ∙ ap (λ t. record { report = both.1.report; trace = t }) (written_is both.1.trace c.deref_mut-4.result.now) in
+    c.finding-2.ensures ∙ (λ i. record { report = (good.0 i).stack.report; trace = nodes_written (stack_kept i) (good.0 i).stack.trace }) ∙ ap (λ t. record { report = both.1.report; trace = t }) (written_is both.1.trace c.deref_mut-4.result.now) in
     let judged : judgement_of bs ≡ Ok (shown c.finding.result, shown c.finding-2.result) = ap (λ y. judgement_in y bs) (sym sizes) ∙ ap (λ o. answered o both) good.1 ∙ sym (λ i. Ok (found_history i, found_stack i)) in
     record { answer = judged; tells = subst (JudgedRight usual bs) judged right }
