@@ -73,7 +73,7 @@ pub fn start<R: AccessRule, W: Watch>(
 }
 
 // Goes on to a node, as the kind of the node where the run stands has it. The stack is lent, so how much of it is in use stands beside it.
-// A node to which that kind does not lead is not a step, nor is any from a depth of 0 or past the stack; a call needs one place more than is in use. Refused, both at place 0, it writes nothing.
+// A node to which that kind does not lead is not a step, nor is any where the depth is none or more than the stack has places; a call needs one place more than is in use. Refused, both at place 0, it writes nothing.
 pub fn go<R: AccessRule, W: Watch>(
     on: &Subject<R, W>,
     edges: &[Edge],
