@@ -17,7 +17,8 @@ pub(crate) fn tell(
     node: u32,
     place: usize,
 ) -> Result<(), AllocError>
-    ensures { OnOk result (string_bytes text.new ≡ string_bytes text.old ++ step_text (program recipe.now) step node place) }
+    ensures { OnOk result
+        (string_bytes text.new ≡ string_bytes text.old ++ step_text (program recipe.now) step node place) }
 {
     match step {
         Ok(at) => {

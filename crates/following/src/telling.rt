@@ -25,7 +25,9 @@ fn walk_on<R: AccessRule, W: Watch>(
     others: &[u32],
     text: &mut String,
 ) -> Result<(), AllocError>
-    ensures { let X = setting_of R.meaning W.watching on.now (take 4096 edges.now) in OnOk result (string_bytes text.new ≡ string_bytes text.old ++ rest_text X others.now 1 (record { at = first; stack = stack.old })) }
+    ensures { let X = setting_of R.meaning W.watching on.now (take 4096 edges.now) in
+        OnOk result
+        (string_bytes text.new ≡ string_bytes text.old ++ rest_text X others.now 1 (record { at = first; stack = stack.old })) }
 {
     let mut step = first;
     for (i, node) in others.iter().enumerate() {

@@ -15,7 +15,8 @@ pub trait Modelled: AccessRule {
     ghost traces: { Program → List Edge → List ℕ → Type 0 };
 
     // Of a lawful program these are the traces of its runs under the rule, along any edges that obey the rules and whatever the watch.
-    ghost agrees: { (rule : Self) (p : Program) (own es : List Edge) (W : Watch) (t : List ℕ) → Lawful p own → EdgesObey p es → (traces p es t → RunTrace p es (Self.meaning rule p) W t) × (RunTrace p es (Self.meaning rule p) W t → traces p es t) };
+    ghost agrees: { (rule : Self) (p : Program) (own es : List Edge) (W : Watch) (t : List ℕ) → Lawful p own → EdgesObey p es
+        → (traces p es t → RunTrace p es (Self.meaning rule p) W t) × (RunTrace p es (Self.meaning rule p) W t → traces p es t) };
 }
 
 // History-based access control.

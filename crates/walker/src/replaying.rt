@@ -29,8 +29,10 @@ fn walk_along<R: AccessRule, W: Watch>(
     stack: &mut [Frame],
     nodes: &[u32],
 ) -> Result<Stand, Refusal>
-    ensures answer { let X = setting_of R.meaning W.watching on.now (take 4096 edges.now) in result ≡ (replayed X.program X.edges X.rule X.watch nodes.now stack.old).at }
-    ensures frames { let X = setting_of R.meaning W.watching on.now (take 4096 edges.now) in stack.new ≡ (replayed X.program X.edges X.rule X.watch nodes.now stack.old).stack }
+    ensures answer { let X = setting_of R.meaning W.watching on.now (take 4096 edges.now) in
+        result ≡ (replayed X.program X.edges X.rule X.watch nodes.now stack.old).at }
+    ensures frames { let X = setting_of R.meaning W.watching on.now (take 4096 edges.now) in
+        stack.new ≡ (replayed X.program X.edges X.rule X.watch nodes.now stack.old).stack }
 {
     let Some((first, others)) = nodes.split_first() else {
         return Err(Refusal::NotAStep { place: 0 });
@@ -49,11 +51,19 @@ pub fn replay<R: AccessRule, W: Watch>(
     stack: &mut [Frame],
     nodes: &[u32],
 ) -> Result<Stand, Refusal>
-    ensures answer { let X = setting_of R.meaning W.watching on.now (take 4096 edges.now) in result ≡ (replayed X.program X.edges X.rule X.watch nodes.now stack.old).at }
-    ensures frames { let X = setting_of R.meaning W.watching on.now (take 4096 edges.now) in stack.new ≡ (replayed X.program X.edges X.rule X.watch nodes.now stack.old).stack }
-    ensures told { let X = setting_of R.meaning W.watching on.now (take 4096 edges.now) in MatchResult result (Stands X.program X.edges X.rule X.watch nodes.now stack.new) (Refuses X.program X.edges X.rule X.watch nodes.now stack.new) }
-    ensures accepts { let X = setting_of R.meaning W.watching on.now (take 4096 edges.now) in Enough X.program X.edges X.rule X.watch nodes.now (length stack.old) → Decides (is_ok result) (RunTrace X.program X.edges X.rule X.watch nodes.now) }
-    ensures enough { let X = setting_of R.meaning W.watching on.now (take 4096 edges.now) in length nodes.now ≤ length stack.old → Enough X.program X.edges X.rule X.watch nodes.now (length stack.old) }
+    ensures answer { let X = setting_of R.meaning W.watching on.now (take 4096 edges.now) in
+        result ≡ (replayed X.program X.edges X.rule X.watch nodes.now stack.old).at }
+    ensures frames { let X = setting_of R.meaning W.watching on.now (take 4096 edges.now) in
+        stack.new ≡ (replayed X.program X.edges X.rule X.watch nodes.now stack.old).stack }
+    ensures told { let X = setting_of R.meaning W.watching on.now (take 4096 edges.now) in
+        MatchResult result (Stands X.program X.edges X.rule X.watch nodes.now stack.new)
+        (Refuses X.program X.edges X.rule X.watch nodes.now stack.new) }
+    ensures accepts { let X = setting_of R.meaning W.watching on.now (take 4096 edges.now) in
+        Enough X.program X.edges X.rule X.watch nodes.now (length stack.old) →
+        Decides (is_ok result) (RunTrace X.program X.edges X.rule X.watch nodes.now) }
+    ensures enough { let X = setting_of R.meaning W.watching on.now (take 4096 edges.now) in
+        length nodes.now ≤ length stack.old →
+        Enough X.program X.edges X.rule X.watch nodes.now (length stack.old) }
 {
     walk_along(on, edges, stack, nodes)
 }
@@ -65,11 +75,19 @@ pub fn replay_modelled<R: Modelled, W: Watch>(
     stack: &mut [Frame],
     nodes: &[u32],
 ) -> Result<Stand, Refusal>
-    ensures answer { let X = setting_of R.meaning W.watching on.now (take 4096 edges.now) in result ≡ (replayed X.program X.edges X.rule X.watch nodes.now stack.old).at }
-    ensures frames { let X = setting_of R.meaning W.watching on.now (take 4096 edges.now) in stack.new ≡ (replayed X.program X.edges X.rule X.watch nodes.now stack.old).stack }
-    ensures accepts { let X = setting_of R.meaning W.watching on.now (take 4096 edges.now) in Enough X.program X.edges X.rule X.watch nodes.now (length stack.old) → Decides (is_ok result) (R.traces X.program X.edges nodes.now) }
-    ensures decides { let X = setting_of R.meaning W.watching on.now (take 4096 edges.now) in length nodes.now ≤ length stack.old → Decides (is_ok result) (R.traces X.program X.edges nodes.now) }
-    ensures told { let X = setting_of R.meaning W.watching on.now (take 4096 edges.now) in MatchResult result (TraceAccepted (R.traces X.program X.edges) X.program X.watch nodes.now) (TraceRefused (R.traces X.program X.edges) nodes.now (length stack.old)) }
+    ensures answer { let X = setting_of R.meaning W.watching on.now (take 4096 edges.now) in
+        result ≡ (replayed X.program X.edges X.rule X.watch nodes.now stack.old).at }
+    ensures frames { let X = setting_of R.meaning W.watching on.now (take 4096 edges.now) in
+        stack.new ≡ (replayed X.program X.edges X.rule X.watch nodes.now stack.old).stack }
+    ensures accepts { let X = setting_of R.meaning W.watching on.now (take 4096 edges.now) in
+        Enough X.program X.edges X.rule X.watch nodes.now (length stack.old) →
+        Decides (is_ok result) (R.traces X.program X.edges nodes.now) }
+    ensures decides { let X = setting_of R.meaning W.watching on.now (take 4096 edges.now) in
+        length nodes.now ≤ length stack.old →
+        Decides (is_ok result) (R.traces X.program X.edges nodes.now) }
+    ensures told { let X = setting_of R.meaning W.watching on.now (take 4096 edges.now) in
+        MatchResult result (TraceAccepted (R.traces X.program X.edges) X.program X.watch nodes.now)
+        (TraceRefused (R.traces X.program X.edges) nodes.now (length stack.old)) }
 {
     replay(on, edges, stack, nodes)
 }

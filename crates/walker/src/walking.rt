@@ -17,7 +17,8 @@ use rules::{AccessRule, Subject, Watch};
 
 // Where a run stands that has come to a node with its top frame: the watch has read the node's mark.
 fn stand<R: AccessRule, W: Watch>(on: &Subject<R, W>, depth: usize, state: u32, top: Frame) -> Stand
-    ensures { result ≡ stand_at (W.watching on.now.watch.now) depth top ((W.watching on.now.watch.now).step state (reads (program on.now.recipe.now) top.node)) }
+    ensures { result ≡ stand_at (W.watching on.now.watch.now) depth top
+        ((W.watching on.now.watch.now).step state (reads (program on.now.recipe.now) top.node)) }
 {
     let state = on.step_to(state, top.node);
     Stand {
@@ -30,14 +31,17 @@ fn stand<R: AccessRule, W: Watch>(on: &Subject<R, W>, depth: usize, state: u32, 
 
 // Whether a run with this top frame, at a check, passes it and may go on to a node.
 fn passes<R: AccessRule, W: Watch>(on: &Subject<R, W>, edges: &[Edge], top: Frame, to: u32) -> bool
-    ensures { let X = setting_of R.meaning W.watching on.now (take 4096 edges.now) in result ≡ (X.rule.pass top.value top.node && has_edge X.edges top.node to) }
+    ensures { let X = setting_of R.meaning W.watching on.now (take 4096 edges.now) in
+        result ≡ (X.rule.pass top.value top.node && has_edge X.edges top.node to) }
 {
     on.rule.pass(on.recipe, top.value, top.node) && has_edge(on.recipe, edges, top.node, to)
 }
 
 // Whether a run with this top frame, at a return, and a call frame below it may come back to a node.
 fn returns(recipe: &Recipe, edges: &[Edge], top: Frame, call: Frame, to: u32) -> bool
-    ensures { result ≡ (nat_lt top.node (length (program recipe.now).nodes) && (is_call (node_at (program recipe.now) call.node).kind && has_edge (listed_edges (program recipe.now) edges.now) call.node to)) }
+    ensures { let p = program recipe.now in
+        result ≡ (nat_lt top.node (length p.nodes)
+        && (is_call (node_at p call.node).kind && has_edge (listed_edges p edges.now) call.node to)) }
 {
     top.node < recipe.nodes()
         && recipe.node_at(call.node).kind.is_call()
@@ -54,9 +58,14 @@ pub fn start<R: AccessRule, W: Watch>(
     stack: &mut [Frame],
     node: u32,
 ) -> Result<Stand, Refusal>
-    ensures answer { let X = setting_of R.meaning W.watching on.now [] in result ≡ step_answer X.program X.watch (step_first X.program X.rule node) (length stack.old) X.watch.start node 0 }
-    ensures frames { let X = setting_of R.meaning W.watching on.now [] in stack.new ≡ step_stack (step_first X.program X.rule node) stack.old }
-    ensures told { (es : List Edge) → let X = setting_of R.meaning W.watching on.now [] in MatchResult result (Stands X.program es X.rule X.watch (node ∷ []) stack.new) (Refuses X.program es X.rule X.watch (node ∷ []) stack.new) }
+    ensures answer { let X = setting_of R.meaning W.watching on.now [] in
+        result ≡ step_answer X.program X.watch (step_first X.program X.rule node) (length stack.old) X.watch.start
+        node 0 }
+    ensures frames { let X = setting_of R.meaning W.watching on.now [] in
+        stack.new ≡ step_stack (step_first X.program X.rule node) stack.old }
+    ensures told { (es : List Edge) → let X = setting_of R.meaning W.watching on.now [] in
+        MatchResult result (Stands X.program es X.rule X.watch (node ∷ []) stack.new)
+        (Refuses X.program es X.rule X.watch (node ∷ []) stack.new) }
 {
     if !on.recipe.is_entry_of(0, node) {
         return Err(NO_STEP);
@@ -82,9 +91,15 @@ pub fn go<R: AccessRule, W: Watch>(
     state: u32,
     node: u32,
 ) -> Result<Stand, Refusal>
-    ensures answer { let X = setting_of R.meaning W.watching on.now (take 4096 edges.now) in result ≡ step_answer X.program X.watch (step_from X.program X.edges X.rule stack.old depth node) (length stack.old) state node 0 }
-    ensures frames { let X = setting_of R.meaning W.watching on.now (take 4096 edges.now) in stack.new ≡ step_stack (step_from X.program X.edges X.rule stack.old depth node) stack.old }
-    ensures told { let X = setting_of R.meaning W.watching on.now (take 4096 edges.now) in (ns : List ℕ) → StandsAt X.program X.edges X.rule X.watch ns stack.old depth state → MatchResult result (Stands X.program X.edges X.rule X.watch (ns ++ node ∷ []) stack.new) (λ e. Refuses X.program X.edges X.rule X.watch (ns ++ node ∷ []) stack.new (placed e (length ns))) }
+    ensures answer { let X = setting_of R.meaning W.watching on.now (take 4096 edges.now) in
+        result ≡ step_answer X.program X.watch (step_from X.program X.edges X.rule stack.old depth node)
+        (length stack.old) state node 0 }
+    ensures frames { let X = setting_of R.meaning W.watching on.now (take 4096 edges.now) in
+        stack.new ≡ step_stack (step_from X.program X.edges X.rule stack.old depth node) stack.old }
+    ensures told { let X = setting_of R.meaning W.watching on.now (take 4096 edges.now) in
+        (ns : List ℕ) → StandsAt X.program X.edges X.rule X.watch ns stack.old depth state →
+        MatchResult result (Stands X.program X.edges X.rule X.watch (ns ++ node ∷ []) stack.new)
+        (λ e. Refuses X.program X.edges X.rule X.watch (ns ++ node ∷ []) stack.new (placed e (length ns))) }
 {
     if depth == 0 || depth > stack.len() {
         return Err(NO_STEP);
