@@ -1,2 +1,3 @@
+pub mod Endings
 pub mod Parsing
 pub mod Rests

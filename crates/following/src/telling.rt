@@ -3,6 +3,7 @@ ghost use Rattle.std.specs.Prelude.{◌≡◌, ◌++◌, map, take, IfOk, OnOk};
 ghost use Rattle.std.specs.String.{string_bytes};
 ghost use Rattle.recipe.specs.Recipes.{file_of};
 ghost use Rattle.rules.specs.Subjects.{setting_of};
+ghost use Rattle.following.specs.Right.{Right};
 ghost use Rattle.following.specs.Told.{rest_text, walk_text, text_of};
 
 use crate::lines::{tell, tell_end};
@@ -67,8 +68,8 @@ fn walk<R: AccessRule>(
     Ok(text)
 }
 
-// What is said of a recipe file and the words of a command, a rule's name and then numbers of nodes: the walk under that rule, or what is wrong. Refused for want of memory alone.
-pub fn told(heap: Global, file: &[u8], words: &[String]) -> Result<String, AllocError>
+// What is said, as text.
+fn said(heap: Global, file: &[u8], words: &[String]) -> Result<String, AllocError>
     ensures { IfOk result (λ text. string_bytes text ≡ text_of file.now (map string_bytes words.now)) }
 {
     let Some((rule, words)) = words.split_first() else {
@@ -93,4 +94,12 @@ pub fn told(heap: Global, file: &[u8], words: &[String]) -> Result<String, Alloc
         "stack" => walk(heap, &recipe, &StackInspection, &nodes),
         _ => String::from_str(heap, USAGE),
     }
+}
+
+// What is said of a recipe file and the words of a command, a rule's name and then numbers of nodes: the walk under that rule, or what is wrong. Refused for want of memory alone.
+pub fn told(heap: Global, file: &[u8], words: &[String]) -> Result<String, AllocError>
+    ensures answer { IfOk result (λ text. string_bytes text ≡ text_of file.now (map string_bytes words.now)) }
+    ensures right { IfOk result (λ text. Right file.now (map string_bytes words.now) (string_bytes text)) }
+{
+    said(heap, file, words)
 }
