@@ -53,6 +53,10 @@ few_if_fit X own n m =
     (λ _. cond_both (tables_fit own n m) (Ok tt) (Err UnfitTable) (λ (o : Allowed). o ≡ Ok tt → n ≤ 65536) (λ fit _. few_places own n m fit) (λ _ e. absurd (cc)))
     (λ _ e. absurd (cc))
 
+-- then as many facts are worked as there are places
+pub all_worked : (n : ℕ) → n ≤ 65536 → min n 65536 ≡ n
+all_worked n few = omega arith
+
 -- a call that is refused leaves the same, whatever it would have left
 pub left_so : {A : Type 0} (o : Allowed) (e : Refusal) (a b old : A) → o ≡ Err e → unless o a old ≡ unless o b old
 left_so o e a b old is = ap (λ p. unless p a old) is ∙ sym (ap (λ p. unless p b old) is)

@@ -1,5 +1,4 @@
-use Rattle.std.proofs.Common.{◌≡◌, length, Ok, Err, sym, ap, ◌∙◌, arith}
-use Rattle.std.proofs.lemmas.Grind.{common_steps}
+use Rattle.std.proofs.Common.{◌≡◌, length, Ok, Err, sym, ap, ◌∙◌}
 use Rattle.std.proofs.lemmas.Result.{err_from_is_err_and}
 use Rattle.recipe.specs.Recipes.{file_of}
 use Rattle.recipe.specs.Bytes.{edges_of}
@@ -9,7 +8,7 @@ use Rattle.inquiry.proofs.Allowed.{refused_so, answered_so}
 use Rattle.inquiry.specs.declared.requests.Reply.TheVariants.{Dug}
 use Rattle.inquiry.specs.Histories.{fit_of, after, output_after}
 use Rattle.judging.specs.Judged.{setting_in, searched, found_by, found_in, outcome_of, over, with_trace}
-use Rattle.judging.proofs.Fitting.{case_in, all_asked, few_if_fit, left_so, search_is, edges_are, output_is, reply_is}
+use Rattle.judging.proofs.Fitting.{case_in, all_asked, few_if_fit, all_worked, left_so, search_is, edges_are, output_is, reply_is}
 use Rattle.judging.proofs.deciding.inquired.Goals as goal
 
 pub returns-in_err-report : goal.returns-in_err-report
@@ -43,7 +42,7 @@ returns g c =
     let asked = all_asked rule bs n m out k in
     let good = answered_so (fit_of C) (report_of C.watch (after C asked).search) c.in_ok-report.report (sym c.in_ok-report.was ∙ c.ask.ensures.answer) in
     let few = few_if_fit X (length (edges_of bs)) n m good.1 in
-    let all : k ≡ n = c.min-allowed.ensures ∙ grind (arith, common_steps) in
+    let all : k ≡ n = c.min-allowed.ensures ∙ all_worked n few in
     let search : (after C asked).search ≡ searched rule n bs = search_is rule bs n m out k ∙ ap (λ j. dug X n j (opened X n)) all in
     let report : c.in_ok-report.report ≡ report_of X.watch (searched rule n bs) = good.0 ∙ ap (report_of X.watch) search in
     let log = c.ask.ensures.replies in
