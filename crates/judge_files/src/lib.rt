@@ -34,6 +34,9 @@ fn judge_file(rt: &HostRuntime, name: &str) -> Result<Status> {
     Ok(verdicts.status())
 }
 
+const ENDS: &str =
+    "It ends with 0 where every verdict of the files is safe, 1 where one is not, 2 where a file is refused or cannot be read.";
+
 // Judges the files that are named in the arguments, one after another, or what stands on the input where none is named.
 // Ends with 0 where every verdict of the files is safe, 1 where one is not, and 2 where a file is refused or cannot be read, or an argument is wrong. After the input it ends with 0.
 pub fn run(rt: &HostRuntime) -> Result<ExitCode> {
@@ -47,6 +50,7 @@ pub fn run(rt: &HostRuntime) -> Result<ExitCode> {
         .about(
             "Prints the verdicts of recipe files under history-based rights and under stack inspection",
         )
+        .after_help(ENDS)
         .arg(files)?;
     let matches = match command.try_get_matches_from(words.as_slice()) {
         Ok(matches) => matches,
