@@ -14,6 +14,7 @@ pub mod Placing
 pub mod Reaching
 pub mod Drained
 pub mod Showing
+pub mod Sides
 pub mod Steps
 pub mod Stretches
 pub mod Wholes

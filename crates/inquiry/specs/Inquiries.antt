@@ -1,12 +1,12 @@
 -- What an inquiry stands for: the state that its table holds.
 use Rattle.std.specs.Prelude.{◌≡◌, ℕ, ◌<◌, ◌≤◌, Bool, true, false, List, take, drop, Option, MatchOption}
+use Rattle.std.specs.Slice.Iter.{iter_rest}
 use Rattle.model.specs.Access.{Rule}
 use Rattle.model.specs.Facts.{Setting}
 use Rattle.model.specs.Program.{Program}
 use Rattle.model.specs.Watches.{Watch}
-use Rattle.recipe.specs.Sequences.{left_in_list}
 use Rattle.rules.specs.Subjects.{setting_of}
-use Rattle.model.specs.Tables.{Search, row_at, targets}
+use Rattle.model.specs.Tables.{Search, row_at}
 use Rattle.inquiry.specs.declared.Inquiry.{Inquiry}
 use Rattle.inquiry.specs.declared.leading.Targets.{Targets}
 use Rattle.inquiry.specs.declared.placed.Placed.{Placed}
@@ -43,7 +43,7 @@ scene_of meaning watching lent = setting_of meaning watching lent.on.now lent.ed
 
 -- the nodes to which the edges of a node lead that are left to go through
 abbrev pub left_targets : Targets → List ℕ
-left_targets s = targets (left_in_list s.edges) s.node
+left_targets s = iter_rest s.laid
 
 -- the first number from one on, before another, that passes a test, if any does
 abbrev pub FirstFrom : (ℕ → Bool) → ℕ → ℕ → Option ℕ → Type 0

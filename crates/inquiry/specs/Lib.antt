@@ -5,3 +5,4 @@ pub mod Inquiries
 pub mod Promises
 pub mod Reached
 pub mod Shapes
+pub mod Sides

@@ -11,6 +11,7 @@ ghost use Rattle.inquiry.specs.Inquiries.{state_of, Grown};
 ghost use Rattle.inquiry.specs.Reached.{IsNext};
 
 use crate::fitting::counts_fit;
+use crate::laying::lay;
 use crate::scene::Scene;
 use crate::{Counts, Dug, Inquiry};
 use recipe::{Edge, Refusal};
@@ -51,10 +52,9 @@ impl Inquiry<'_> {
     {
         self.may_dig(on, edges)?;
         let before = self.worked;
-        let scene = Scene {
-            on,
-            edges: &edges[..self.opening.used],
-        };
+        let edges = &edges[..self.opening.used];
+        let laid = &lay(on.recipe, edges);
+        let scene = Scene { on, edges, laid };
         self.work_up_to(&scene, allowed);
         Ok(Dug {
             finished: (self.worked - before) as u32,

@@ -5,15 +5,15 @@ ghost use Rattle.model.specs.Tables.{targets};
 ghost use Rattle.recipe.specs.Recipes.{program};
 ghost use Rattle.inquiry.specs.Inquiries.{left_targets};
 
+use crate::laying::{NO_PART, Part};
 use crate::scene::Scene;
-use recipe::Counted;
 use rules::{AccessRule, Watch};
+use std::slice;
 
 // The nodes to which the edges of a node lead, one after another.
 #[derive(Drop)]
 pub(crate) struct Targets<'s> {
-    edges: Counted<'s>,
-    node: u32,
+    laid: slice::Iter<'s, u32>,
 }
 
 impl Iterator for Targets<'_> {
@@ -26,9 +26,7 @@ impl Iterator for Targets<'_> {
     ghost remaining = { item_count left_targets };
 
     fn next(&mut self) -> Option<u32> {
-        let node = self.node;
-        let edge = self.edges.find(|edge| edge.from == node)?;
-        Some(edge.to)
+        self.laid.next().copied()
     }
 }
 
@@ -37,9 +35,10 @@ impl<R: AccessRule, W: Watch> Scene<'_, R, W> {
     pub(crate) fn targets(&self, node: u32) -> Targets<'_>
         ensures { left_targets result ≡ targets (counted (program self.now.on.now.recipe.now) self.now.edges.now) node }
     {
+        let laid = self.laid;
+        let Part { first, end } = *laid.parts.get(node as usize).unwrap_or(&NO_PART);
         Targets {
-            edges: self.on.recipe.counted(self.edges),
-            node,
+            laid: laid.targets[first..end].iter(),
         }
     }
 }

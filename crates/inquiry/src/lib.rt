@@ -11,6 +11,7 @@ mod fitting;
 mod inquiring;
 mod joining;
 mod laws;
+mod laying;
 mod leading;
 mod linking;
 mod offering;

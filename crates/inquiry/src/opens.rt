@@ -10,7 +10,6 @@ ghost use Rattle.inquiry.specs.Inquiries.{state_of};
 ghost use Rattle.inquiry.specs.Reached.{Reached};
 
 use crate::fitting::fit;
-use crate::scene::Scene;
 use crate::{Counts, Inquiry, Opening};
 use model::Fact;
 use recipe::{Edge, Recipe};
@@ -83,7 +82,7 @@ impl<'t> Inquiry<'t> {
             opening: Opening { counts, used },
             fits,
         };
-        inquiry.begin(&Scene { on, edges });
+        inquiry.begin(on);
         inquiry
     }
 }

@@ -1,12 +1,14 @@
 // The rows that the four rules make.
 ghost use Rattle.std.specs.Prelude.{◌≡◌};
 ghost use Rattle.model.specs.Tables.{row, first_row, follow_row, enter_row, back_row};
+ghost use Rattle.recipe.specs.Recipes.{own_edges};
+ghost use Rattle.rules.specs.Subjects.{setting_of};
 ghost use Rattle.inquiry.specs.Inquiries.{scene_of};
 
 use crate::placed::Placed;
 use crate::scene::Scene;
 use model::{Fact, Point};
-use rules::{AccessRule, Watch};
+use rules::{AccessRule, Subject, Watch};
 
 // A call that begins here, by a rule and from a source.
 fn begun(at: Point, rule: u32, source: u32) -> Fact
@@ -26,19 +28,19 @@ fn begun(at: Point, rule: u32, source: u32) -> Fact
     }
 }
 
-impl<R: AccessRule, W: Watch> Scene<'_, R, W> {
-    // Rule 1: an entry of main.
-    pub(crate) fn first_row(&self, entry: u32) -> Fact
-        ensures { result ≡ first_row (scene_of R.meaning W.watching self.now) entry }
-    {
-        let at = Point {
-            node: entry,
-            value: self.on.rule.first(self.on.recipe, entry),
-            state: self.on.step_to(self.on.watch.start(), entry),
-        };
-        begun(at, 1, 0)
-    }
+// Rule 1: an entry of main. It looks at no edge, so it needs no scene.
+pub(crate) fn first_row<R: AccessRule, W: Watch>(on: &Subject<R, W>, entry: u32) -> Fact
+    ensures { result ≡ first_row (setting_of R.meaning W.watching on.now (own_edges on.now.recipe.now)) entry }
+{
+    let at = Point {
+        node: entry,
+        value: on.rule.first(on.recipe, entry),
+        state: on.step_to(on.watch.start(), entry),
+    };
+    begun(at, 1, 0)
+}
 
+impl<R: AccessRule, W: Watch> Scene<'_, R, W> {
     // Rule 2: along an edge, with the same value.
     pub(crate) fn follow_row(&self, from: Placed, to: u32) -> Fact
         ensures { result ≡ follow_row (scene_of R.meaning W.watching self.now) from.at from.fact to }

@@ -1,13 +1,17 @@
 // What an inquiry is lent.
-ghost use Rattle.std.specs.Prelude.{◌≤◌, length};
+ghost use Rattle.model.specs.Program.{counted};
+ghost use Rattle.recipe.specs.Recipes.{program};
+ghost use Rattle.inquiry.specs.Sides.{LaidBy};
 
+use crate::laying::Laid;
 use recipe::Edge;
 use rules::Subject;
 
-// What an inquiry is about, and the edges of its table that are in use.
+// What an inquiry is about, the edges of its table that are in use, and the targets of those of them that count.
 #[derive(Drop)]
 pub(crate) struct Scene<'s, R, W> {
     pub on: &'s Subject<'s, R, W>,
     pub edges: &'s [Edge],
-    ghost few: { length edges.now ≤ 4096 },
+    pub laid: &'s Laid,
+    ghost laid_by: { LaidBy (counted (program on.now.recipe.now) edges.now) laid.now.parts laid.now.targets },
 }

@@ -2,13 +2,16 @@
 ghost use Rattle.std.specs.Prelude.{◌≡◌, ◌<◌};
 ghost use Rattle.model.specs.Facts.{kind_at};
 ghost use Rattle.model.specs.Tables.{offer_all, follows, enters, backs, each_from, return_at, call_at, offers_by, end_of, work, dug, firsts};
+ghost use Rattle.recipe.specs.Recipes.{own_edges};
+ghost use Rattle.rules.specs.Subjects.{setting_of};
 ghost use Rattle.inquiry.specs.Inquiries.{state_of, IsRow, Grown, scene_of};
 
 use crate::Inquiry;
 use crate::placed::Placed;
+use crate::rows::first_row;
 use crate::scene::Scene;
 use recipe::Kind;
-use rules::{AccessRule, Watch};
+use rules::{AccessRule, Subject, Watch};
 
 impl Inquiry<'_> {
     // Rule 2: along each edge of a fact's node.
@@ -141,15 +144,15 @@ impl Inquiry<'_> {
     }
 
     // Rule 1: each entry of main.
-    pub(crate) fn begin<R: AccessRule, W: Watch>(&mut self, scene: &Scene<R, W>)
-        ensures state { state_of self.new ≡ offer_all self.old.places (state_of self.old) (firsts (scene_of R.meaning W.watching scene.now)) }
+    pub(crate) fn begin<R: AccessRule, W: Watch>(&mut self, on: &Subject<R, W>)
+        ensures state { state_of self.new ≡ offer_all self.old.places (state_of self.old) (firsts (setting_of R.meaning W.watching on.now (own_edges on.now.recipe.now))) }
         ensures grown { Grown self.old self.new }
     {
-        let recipe = scene.on.recipe;
+        let recipe = on.recipe;
         self.offer_each(
             (0..recipe.nodes())
                 .filter(|node| recipe.is_entry_of(0, *node))
-                .map(|entry| scene.first_row(entry)),
+                .map(|entry| first_row(on, entry)),
         );
     }
 }

@@ -4,14 +4,16 @@ use Rattle.std.proofs.lemmas.Iterator.{YieldsList-from_range, YieldsList-from_ma
 use Rattle.std.proofs.lemmas.Iterator.Consumers.{YieldsList-at, YieldsList-from_filter}
 use Rattle.model.specs.Program.{is_entry_of}
 use Rattle.model.specs.Tables.{first_row, offer_all}
-use Rattle.inquiry.specs.Inquiries.{scene_of, state_of}
+use Rattle.recipe.specs.Recipes.{own_edges}
+use Rattle.rules.specs.Subjects.{setting_of}
+use Rattle.inquiry.specs.Inquiries.{state_of}
 use Rattle.inquiry.proofs.Drained.{drained, each_passed}
 use Rattle.inquiry.proofs.Inquiry.begin.Goals as goal
 
 pub returns-clause-state : goal.returns-clause-state
 returns-clause-state g c =
     let t = c.args.self.now in
-    let X = scene_of g.R.AccessRule.meaning g.W.Watch.watching c.args.scene.now in
+    let X = setting_of g.R.AccessRule.meaning g.W.Watch.watching c.args.on.now (own_edges c.args.on.now.recipe.now) in
     let nodes = length X.program.nodes in
     let entry = is_entry_of X.program 0 in
     let row = first_row X in
