@@ -1,5 +1,5 @@
 -- The bytes that the builder makes, of any parts: each number is cut to the bytes that a file has for it.
-use Rattle.std.specs.Prelude.{ℕ, ◌+◌, ◌*◌, ◌%◌, List, [], ◌∷◌, ◌++◌, length, take, replicate, min, slice_set}
+use Rattle.std.specs.Prelude.{ℕ, ◌+◌, ◌*◌, ◌%◌, Bool, List, [], ◌∷◌, ◌++◌, length, take, replicate, min, slice_set}
 use Rattle.std.specs.List.{flat_map, fold}
 use Rattle.model.specs.declared.Edge.{Edge}
 use Rattle.model.specs.declared.Kind.{Kind}
@@ -36,6 +36,10 @@ cut_node n = record { kind = cut_kind n.kind; mark = n.mark % 256; entry = n.ent
 -- an edge with its numbers cut
 abbrev pub cut_edge : Edge → Edge
 cut_edge e = record { from = cut e.from; to = cut e.to }
+
+-- the node of a line: what it does, its mark, and whether it is an entry
+abbrev pub node_of : Kind × ℕ × Bool → Node
+node_of (kind, mark, entry) = record { kind = kind; mark = mark; entry = entry }
 
 -- numbers one after another, each in two bytes
 abbrev pub words : List ℕ → List ℕ

@@ -1,9 +1,9 @@
 // Builds the bytes of files, right or wrong, with no help from the code under test: of the crate recipe only the definitions of the format are cited.
-ghost use Rattle.std.specs.Prelude.{◌≡◌, ℕ, ◌<◌, ◌≤◌, length, IfOk, OnOk};
+ghost use Rattle.std.specs.Prelude.{◌≡◌, ℕ, ◌<◌, ◌≤◌, length, map, IfOk, OnOk};
 ghost use Rattle.std.specs.List.{All};
 ghost use Rattle.model.specs.Lawful.{Lawful};
 ghost use Rattle.recipe.specs.Format.{word, method_bytes, node_bytes, edge_bytes, bytes_of};
-ghost use Rattle.samples.specs.Building.{program_in, cut, cut_method, cut_node, cut_edge, told, contents_of, built, blank_bytes, with_changes};
+ghost use Rattle.samples.specs.Building.{program_in, cut, cut_method, cut_node, cut_edge, told, contents_of, built, blank_bytes, with_changes, node_of};
 
 use model::{Edge, Kind, Method, Node};
 use std::alloc::{AllocError, Global};
@@ -25,6 +25,26 @@ pub const CALL: Kind = Kind::Call {
     accept: 0,
     privileged: false,
 };
+
+// A call of main that grants and accepts nothing.
+pub const CALL_MAIN: Kind = Kind::Call {
+    callee: 0,
+    grant: 0,
+    accept: 0,
+    privileged: false,
+};
+
+// A node's kind, mark, and whether it is an entry: a node in one line.
+pub type Made = (Kind, u32, bool);
+
+// The nodes of such lines.
+pub fn nodes(heap: Global, made: &[Made]) -> Result<Vec<Node>, AllocError>
+    ensures { IfOk result (λ nodes. nodes.items ≡ map node_of made.now) }
+{
+    made.iter()
+        .map(|&(kind, mark, entry)| Node { kind, mark, entry })
+        .collect(heap)
+}
 
 // The two lesser bytes of a number, the greater one first.
 fn word(n: u32) -> [u8; 2]

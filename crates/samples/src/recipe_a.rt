@@ -168,3 +168,7 @@ pub const EDGE_3: usize = 96;
 pub const ROW_0: usize = 100;
 
 pub const ROW_1: usize = 132;
+
+// The trace of its first bad fact under stack inspection, which is at node 5, and whose call began at node 4: 4 5 is its stretch.
+// The call is node 1, which main comes to from node 0 through node 3: 0 3 1 is the stretch of that call's fact.
+pub const TRACE: [u32; 5] = [0, 3, 1, 4, 5];
