@@ -1,40 +1,12 @@
 // The facts of recipe A, worked out by hand from the four rules.
-use crate::tables::{Row, all_worked, check_report, check_rows};
+use crate::tables::{all_worked, check_report, check_rows};
 use inquiry::{Report, Verdict};
 use recipe::{Recipe, recipe_of};
 use rules::{AccessRule, History, StackInspection, Subject, TableWatch, WallWatch};
 use samples::recipe_a;
+use samples::rows::{history_rows, stack_rows};
 use std::process::Abort;
 use std::test::Fail;
-
-// Under history: main, the first callee with right 0, main again with right 0 alone, the second callee, whose check holds it up.
-static HISTORY: [Row; 4] = [
-    [0, 3, 0, 0, 3, 0, 1, 0, 0, 1],
-    [3, 1, 1, 3, 1, 1, 3, 1, 0, 1],
-    [0, 3, 0, 1, 1, 1, 4, 1, 2, 3],
-    [4, 1, 1, 4, 1, 1, 3, 3, 0, 1],
-];
-
-// Under stack inspection main has both rights again, so the check is passed, and mark 2 after mark 1 is bad.
-static STACK: [Row; 7] = [
-    [0, 3, 0, 0, 3, 0, 1, 0, 0, 1],
-    [3, 1, 1, 3, 1, 1, 3, 1, 0, 1],
-    [0, 3, 0, 1, 3, 1, 4, 1, 2, 3],
-    [4, 3, 1, 4, 3, 1, 3, 3, 0, 1],
-    [4, 3, 1, 5, 3, 2, 2, 4, 0, 2],
-    [4, 3, 1, 6, 3, 2, 2, 5, 0, 3],
-    [0, 3, 0, 2, 3, 2, 4, 3, 6, 7],
-];
-
-// The rows under history: handed out by a function, so that a proof of a test does not have to carry each of them.
-pub(crate) fn history_rows() -> &'static [Row] {
-    &HISTORY
-}
-
-// The rows under stack inspection.
-pub(crate) fn stack_rows() -> &'static [Row] {
-    &STACK
-}
 
 #[test]
 fn both_tables_place_by_place(rt: HostRuntime) -> Result<(), Fail> {

@@ -1,10 +1,11 @@
 // Digs in pieces come to what one dig comes to.
-use crate::facts_of_a::stack_rows;
-use crate::tables::{MARK, MARK_EDGE, check_facts, first_rows};
+use crate::tables::{check_facts, first_rows};
 use inquiry::{Dug, Inquiry, Report, Verdict};
 use recipe::{Recipe, recipe_of};
 use rules::{StackInspection, Subject, TableWatch};
+use samples::marks::{MARK, MARK_EDGE};
 use samples::recipe_a;
+use samples::rows::stack_rows;
 use std::process::Abort;
 use std::test::Fail;
 

@@ -1,10 +1,10 @@
 // Fact tables with fewer places than there are facts.
-use crate::facts_of_a::{history_rows, stack_rows};
-use crate::tables::{Row, check_rows};
+use crate::tables::check_rows;
 use inquiry::{Report, Verdict};
 use recipe::recipe_of;
 use rules::{AccessRule, History, StackInspection, Subject, TableWatch};
 use samples::recipe_a;
+use samples::rows::{Row, history_rows, stack_rows};
 use std::process::Abort;
 use std::test::Fail;
 

@@ -1,11 +1,11 @@
 // Recipes that call themselves, and several entries: the facts were worked out by hand.
-use crate::made::{CALL_MAIN, Made, file};
-use crate::tables::{Row, all_worked, check_report, check_rows};
+use crate::tables::{all_worked, check_report, check_rows};
 use inquiry::Verdict;
 use model::Method;
 use recipe::{Edge, Kind, recipe_of};
 use rules::{History, StackInspection, Subject, WallWatch};
-use samples::building::CALL;
+use samples::building::{CALL, CALL_MAIN, Made, Parts, nodes};
+use samples::rows::Row;
 use std::test::Fail;
 
 // Takes right 1 back under history, whatever the callee went through.
@@ -91,7 +91,14 @@ static TWO_ROWS: [Row; 13] = [
 
 #[test]
 fn main_calls_itself(rt: HostRuntime) -> Result<(), Fail> {
-    let file = file(rt.alloc(), &SELF_METHODS, &SELF_NODES, &SELF_EDGES, &[])?;
+    let nodes = nodes(rt.alloc(), &SELF_NODES)?;
+    let parts = Parts {
+        methods: &SELF_METHODS,
+        nodes: &nodes,
+        edges: &SELF_EDGES,
+        rows: &[],
+    };
+    let file = parts.file(rt.alloc())?;
     let recipe = &recipe_of(&file)?;
     let watch = &WallWatch { one: 1, two: 2 };
     let history = Subject {
@@ -112,7 +119,14 @@ fn main_calls_itself(rt: HostRuntime) -> Result<(), Fail> {
 
 #[test]
 fn entries_and_a_callee_that_calls_itself(rt: HostRuntime) -> Result<(), Fail> {
-    let file = file(rt.alloc(), &TWO_METHODS, &TWO_NODES, &TWO_EDGES, &[])?;
+    let nodes = nodes(rt.alloc(), &TWO_NODES)?;
+    let parts = Parts {
+        methods: &TWO_METHODS,
+        nodes: &nodes,
+        edges: &TWO_EDGES,
+        rows: &[],
+    };
+    let file = parts.file(rt.alloc())?;
     let recipe = &recipe_of(&file)?;
     let history = Subject {
         recipe,

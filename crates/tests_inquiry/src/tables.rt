@@ -2,60 +2,12 @@
 use inquiry::{Fact, Report, Verdict, inquire};
 use recipe::Edge;
 use rules::{AccessRule, Subject, Watch};
+use samples::marks::{MARK, MARK_EDGE};
+use samples::rows::{Row, fact};
 use std::alloc::{AllocError, Global};
 use std::fmt::Debug;
 use std::process::Abort;
 use std::test::Fail;
-
-// A fact and an edge that no inquiry makes: a place that holds one was not written.
-pub const MARK: Fact = Fact {
-    entry: 901,
-    brought: 902,
-    seen: 903,
-    node: 904,
-    value: 905,
-    state: 906,
-    rule: 907,
-    source: 908,
-    returned: 909,
-    span: 910,
-};
-
-pub const MARK_EDGE: Edge = Edge { from: 911, to: 912 };
-
-// A place of an output that no trace was written to.
-pub const MARK_NODE: u32 = 913;
-
-// The ten numbers of a fact, in the order of its fields.
-pub type Row = [u32; 10];
-
-// The fact of a row. A fact written out takes a dozen lines, so the tables of the tests are rows.
-fn fact(row: Row) -> Fact {
-    let [
-        entry,
-        brought,
-        seen,
-        node,
-        value,
-        state,
-        rule,
-        source,
-        returned,
-        span,
-    ] = row;
-    Fact {
-        entry,
-        brought,
-        seen,
-        node,
-        value,
-        state,
-        rule,
-        source,
-        returned,
-        span,
-    }
-}
 
 // The table begins with these, and no place past them was written.
 fn check_places<T: Copy + PartialEq + Debug>(rt: &impl Abort, table: &[T], front: &[T], mark: T) {
@@ -81,16 +33,6 @@ pub(crate) fn check_facts(
 pub(crate) fn first_rows(rows: &[Row], held: u32) -> Result<&[Row], &'static str> {
     rows.get(..held as usize)
         .ok_or("more facts are held than there are rows")
-}
-
-// The table holds these edges first, and nothing was written past them.
-pub(crate) fn check_edges(rt: &impl Abort, edges: &[Edge], own: &[Edge]) {
-    check_places(rt, edges, own, MARK_EDGE);
-}
-
-// The output begins with these nodes, and nothing was written past them.
-pub(crate) fn check_output(rt: &impl Abort, out: &[u32], nodes: &[u32]) {
-    check_places(rt, out, nodes, MARK_NODE);
 }
 
 // The report of an inquiry that worked all facts that it held.

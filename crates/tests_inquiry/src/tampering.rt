@@ -1,8 +1,9 @@
 // An edge table that is written to between the opening and a dig: only the places in use are read, and only edges that count lead on.
-use crate::tables::{MARK, MARK_EDGE, all_worked};
+use crate::tables::all_worked;
 use inquiry::{Inquiry, Report, Verdict};
 use recipe::{Edge, Recipe, Refusal, recipe_of};
 use rules::{StackInspection, Subject, TableWatch};
+use samples::marks::{MARK, MARK_EDGE};
 use samples::recipe_a;
 use std::test::Fail;
 
