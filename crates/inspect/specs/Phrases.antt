@@ -54,6 +54,19 @@ lead_text marks cell = if cell == 255 then marks ++ codes " undefined" else mark
 abbrev pub verb_text : Bool → List ℕ
 verb_text passed = if passed then codes "passes" else codes "stops"
 
+-- both rules at a call, and at a check
+abbrev pub at_call_text : ℕ → ℕ → ℕ → List ℕ
+at_call_text call history stack =
+    codes "call " ++ (decimal call ++ (codes " from every right: history enters with rights " ++ (rights_text history ++ (codes ", stack inspection with rights " ++ rights_text stack))))
+
+abbrev pub at_check_text : ℕ → Bool → Bool → List ℕ
+at_check_text check history stack =
+    codes "check " ++ (decimal check ++ (codes " with its method's rights: history " ++ (verb_text history ++ (codes ", stack inspection " ++ verb_text stack))))
+
+-- where the watch goes from a state
+abbrev pub going_text : ℕ → ℕ → Bool → List ℕ
+going_text state next bad = decimal state ++ (codes " to " ++ (decimal next ++ word_if bad (codes " (bad)")))
+
 -- what was written again
 abbrev pub written_text : Written → List ℕ
 written_text (Same bytes) = decimal bytes ++ codes " bytes, the same file"

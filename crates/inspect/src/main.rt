@@ -6,6 +6,7 @@ use recipe::{Edge, Recipe, recipe_of};
 use showing::Refused;
 use std::io::Read;
 
+mod asked;
 mod listing;
 mod phrases;
 mod ruled;

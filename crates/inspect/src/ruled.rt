@@ -3,15 +3,12 @@ ghost use Rattle.std.specs.Prelude.{◌≡◌, ◌==◌, ℕ, ◌<◌, true, len
 ghost use Rattle.model.specs.Program.{node_at, is_entry_of};
 ghost use Rattle.recipe.specs.Offence.{any_below};
 ghost use Rattle.recipe.specs.Recipes.{program};
-ghost use Rattle.inspect.specs.Phrases.{verb_text};
 
+use crate::asked::{AtCall, AtCheck, Going};
 use crate::phrases::Many;
 use recipe::{Kind, Recipe};
-use rules::{AccessRule, History, StackInspection, TableWatch, Watch};
-use showing::Rights;
+use rules::{TableWatch, Watch};
 use std::alloc::{AllocError, Global};
-
-const EVERY_RIGHT: u32 = 65535;
 
 // The first entry of each method, in the order of the methods: nodes come in that order, and each method has an entry.
 pub(crate) fn first_entries(heap: Global, recipe: &Recipe) -> Result<Vec<u32>, AllocError>
@@ -27,35 +24,6 @@ pub(crate) fn first_entries(heap: Global, recipe: &Recipe) -> Result<Vec<u32>, A
     Ok(entries)
 }
 
-// What both rules make of a call, as a line.
-fn print_call(rt: &HostRuntime, recipe: &Recipe, call: u32, entry: u32) -> anyhow::Result<()> {
-    let history = Rights(History.enter(recipe, EVERY_RIGHT, call, entry));
-    let stack = Rights(StackInspection.enter(recipe, EVERY_RIGHT, call, entry));
-    println!(rt;
-        "call {call} from every right: history enters with rights {history}, stack inspection with rights {stack}"
-    )?;
-    Ok(())
-}
-
-// What a rule does at a check.
-fn verb(passed: bool) -> &'static str
-    ensures { result.now ≡ verb_text passed }
-{
-    if passed { "passes" } else { "stops" }
-}
-
-// What both rules make of a check, as a line.
-fn print_check(rt: &HostRuntime, recipe: &Recipe, check: u32) -> anyhow::Result<()> {
-    let home = recipe.method_of(check).and_then(|k| recipe.method(k));
-    let own = home.map_or(0, |method| method.rights);
-    let history = verb(History.pass(recipe, own, check));
-    let stack = verb(StackInspection.pass(recipe, own, check));
-    println!(rt;
-        "check {check} with its method's rights: history {history}, stack inspection {stack}"
-    )?;
-    Ok(())
-}
-
 // A line for each call and each check.
 pub(crate) fn list_answers(
     rt: &HostRuntime,
@@ -66,9 +34,9 @@ pub(crate) fn list_answers(
         match recipe.node_at(n).kind {
             Kind::Call { callee, .. } => {
                 let entry = entries.get(callee as usize).copied().unwrap_or(0);
-                print_call(rt, recipe, n, entry)?;
+                rt.println(AtCall::ask(recipe, n, entry))?;
             }
-            Kind::Check { .. } => print_check(rt, recipe, n)?,
+            Kind::Check { .. } => rt.println(AtCheck::ask(recipe, n))?,
             Kind::Nop | Kind::Return => {}
         }
     }
@@ -95,10 +63,9 @@ pub(crate) fn list_watch(rt: &HostRuntime, recipe: &Recipe) -> anyhow::Result<()
     for mark in (0..32).filter(|mark| uses(recipe, *mark)) {
         print!(rt; "  mark {mark}:")?;
         for state in 0..states {
-            let next = watch.step(state, mark);
-            let bad = if watch.bad(next) { " (bad)" } else { "" };
             let gap = if state == 0 { "" } else { "," };
-            print!(rt; "{gap} {state} to {next}{bad}")?;
+            let going = Going::ask(recipe, state, mark);
+            print!(rt; "{gap} {going}")?;
         }
         println!(rt; "")?;
     }
