@@ -43,7 +43,7 @@ in_each n f g k lt e =
     let l : length (each n f g) ≡ n = length-map-range_with_len (λ k. (f k, g k)) 0 n in
     (k, omega arith, get_or-map-range_with_len (λ k. (f k, g k)) 0 n k k (false, g k) lt (zero-add k) ∙ (λ i. (e i, g k)))
 
-each_in : {R : Type 0} (n : ℕ) (f : ℕ → Bool) (g : ℕ → R) (r : R) → Contains (each n f g) (false, r) → (k : ℕ) × (k < n) × (f k ≡ false) × (g k ≡ r)
+pub each_in : {R : Type 0} (n : ℕ) (f : ℕ → Bool) (g : ℕ → R) (r : R) → Contains (each n f g) (false, r) → (k : ℕ) × (k < n) × (f k ≡ false) × (g k ≡ r)
 each_in n f g r (k, lt, e) =
     let l : length (each n f g) ≡ n = length-map-range_with_len (λ k. (f k, g k)) 0 n in
     let few : k < n = omega arith in

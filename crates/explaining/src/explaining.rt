@@ -1,7 +1,8 @@
 // Explains a refusal: the record, its values, where it stands, and which rule it breaks first.
-ghost use Rattle.std.specs.Prelude.{◌≡◌, ◌<◌, ◌++◌, true, Some, is_some, Decides};
+ghost use Rattle.std.specs.Prelude.{◌≡◌, ◌<◌, ◌++◌, true, Some, is_some, IfSome, Decides};
 ghost use Rattle.recipe.specs.Offence.{first_offence, take_tests, check_tests};
 ghost use Rattle.recipe.specs.declared.grounds.Refusal.TheVariants.{Misplaced, Miscounted, BadMethod, BadNode, BadEdge, BadRow};
+ghost use Rattle.explaining.specs.Shown.{Shows};
 ghost use Rattle.explaining.specs.Rules.{entry_record, explained, Fails};
 
 use crate::broken::{
@@ -168,6 +169,7 @@ fn explanation_of(file: &[u8], refusal: Refusal) -> Option<Explanation>
 pub fn explain(file: &[u8], refusal: Refusal) -> Option<Explanation>
     ensures answer { result ≡ explained file.now refusal }
     ensures broken { Decides (is_some result) (Fails file.now refusal) }
+    ensures shows { IfSome result (λ e. Shows e.what e.broken) }
     ensures named { first_offence (take_tests file.now ++ check_tests file.now) ≡ Some refusal → is_some result ≡ true }
 {
     explanation_of(file, refusal)
