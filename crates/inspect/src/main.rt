@@ -6,6 +6,7 @@ use recipe::{Edge, Recipe, recipe_of};
 use showing::Refused;
 use std::io::Read;
 
+mod answers;
 mod asked;
 mod listing;
 mod phrases;
@@ -14,9 +15,10 @@ mod steps;
 mod transitions;
 mod written;
 
+use answers::Answers;
 use listing::list_methods;
 use phrases::Many;
-use ruled::{first_entries, list_answers, list_watch};
+use ruled::{first_entries, list_watch};
 use transitions::list_rows;
 use written::write_back;
 
@@ -60,7 +62,11 @@ fn inspect(rt: &HostRuntime, file: &[u8]) -> anyhow::Result<()> {
     list_methods(rt, &recipe, &edges)?;
     list_rows(rt, &recipe)?;
     let entries = first_entries(rt.alloc(), &recipe)?;
-    list_answers(rt, &recipe, &entries)?;
+    let answers = Answers {
+        recipe: &recipe,
+        entries: &entries,
+    };
+    print!(rt; "{answers}")?;
     list_watch(rt, &recipe)?;
     match write_back(rt.alloc(), &recipe, &edges, file)? {
         Ok(written) => println!(rt; "written back: {written}")?,

@@ -1,12 +1,12 @@
-// What both access rules make of each call and each check, and what the table watch does on the marks that the recipe uses.
+// An entry of each method, and what the table watch does on the marks that the recipe uses.
 ghost use Rattle.std.specs.Prelude.{◌≡◌, ◌==◌, ℕ, ◌<◌, true, length, IfOk, slice_index};
 ghost use Rattle.model.specs.Program.{node_at, is_entry_of};
 ghost use Rattle.recipe.specs.Offence.{any_below};
 ghost use Rattle.recipe.specs.Recipes.{program};
 
-use crate::asked::{AtCall, AtCheck, Going};
+use crate::asked::Going;
 use crate::phrases::Many;
-use recipe::{Kind, Recipe};
+use recipe::Recipe;
 use rules::{TableWatch, Watch};
 use std::alloc::{AllocError, Global};
 
@@ -22,25 +22,6 @@ pub(crate) fn first_entries(heap: Global, recipe: &Recipe) -> Result<Vec<u32>, A
         }
     }
     Ok(entries)
-}
-
-// A line for each call and each check.
-pub(crate) fn list_answers(
-    rt: &HostRuntime,
-    recipe: &Recipe,
-    entries: &[u32],
-) -> anyhow::Result<()> {
-    for n in 0..recipe.nodes() {
-        match recipe.node_at(n).kind {
-            Kind::Call { callee, .. } => {
-                let entry = entries.get(callee as usize).copied().unwrap_or(0);
-                rt.println(AtCall::ask(recipe, n, entry))?;
-            }
-            Kind::Check { .. } => rt.println(AtCheck::ask(recipe, n))?,
-            Kind::Nop | Kind::Return => {}
-        }
-    }
-    Ok(())
 }
 
 // Whether a node has this mark.
