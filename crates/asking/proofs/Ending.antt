@@ -42,7 +42,7 @@ module _ (C : Opened) where
       let parts = none_left (accepted_one r (answer C s r)) (accepted rs (replies_from C (step C s r) rs)) none in
       from_rests (step C s r) rs (step_rests s r rest parts.0) parts.1
 
-  -- so after a dig of as many facts as there are places no verdict is unfinished until a link is accepted
+  -- so a dig of as many facts as there are places leaves nothing unfinished, however it goes on without an accepted link
   pub dig_ends : (rs ss : List Request) (k : ℕ) → C.places ≤ k → links C (rs ++ Dig k ∷ ss) ≡ links C rs → Says C (rs ++ Dig k ∷ ss) Unfinished → ⊥
   unfolding after_from replies_from accepted
   dig_ends rs ss k enough same says =

@@ -37,7 +37,7 @@ impl Inquiry<'_> {
         Ok(())
     }
 
-    // Works up to so many facts, in table order, and answers how many it finished and how many are held.
+    // Works the next facts of the table, at most so many, in their order. Tells the number that were finished, and that of all held.
     pub fn dig<R: AccessRule, W: Watch>(
         &mut self,
         on: &Subject<R, W>,

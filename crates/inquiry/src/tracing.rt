@@ -112,7 +112,7 @@ impl Inquiry<'_> {
             .position(|fact| watch.bad(fact.state))
     }
 
-    // Writes the trace of the first bad fact to the output, and answers how many nodes it has. A trace too long for the output, or with more nodes than a number tells, is refused with its length.
+    // Puts the trace of the first fact that is bad into the first places of the output, and tells its number of nodes. One that is too long for the output, or has more nodes than a number tells, is refused with its length.
     pub fn trace<W: Watch>(&self, watch: &W, out: &mut [u32]) -> Result<u32, Refusal>
         ensures answer { result ≡ answered (trace_answer self.now (W.watching watch.now) (length out.old)) (trace_length (W.watching watch.now) (state_of self.now)) }
         ensures output { out.new ≡ unless (trace_answer self.now (W.watching watch.now) (length out.old)) (trace_output (W.watching watch.now) (state_of self.now) out.old) out.old }

@@ -119,7 +119,11 @@ fn a_refused_list_leaves_the_frames_that_it_came_to(rt: HostRuntime) -> Result<(
     );
     assert_eq!(rt;
         frames,
-        [Frame { node: 1, value: 1 }, Frame { node: 4, value: 1 }, EMPTY]
+        [
+            Frame { node: 1, value: 1 },
+            Frame { node: 4, value: 1 },
+            EMPTY
+        ]
     );
     Ok(())
 }
