@@ -38,22 +38,31 @@ def svg(width, height, parts, title):
 
 def layers():
     parts = []
-    parts += box(20, 20, 200, 62, "judge", ["prints what a file comes to"], "white")
-    parts += box(240, 20, 200, 62, "inspect", ["shows a recipe file"], "white")
-    parts += box(460, 20, 200, 62, "walk", ["follows a list of nodes"], "white")
-    parts += box(20, 120, 200, 80, "judging", ["from a file's bytes", "to verdicts and traces"])
-    parts += box(20, 240, 200, 80, "asking", ["lists of requests,", "and the law of the answers"])
-    parts += box(20, 360, 200, 80, "inquiry", ["the search: dig, link,", "verdict, trace"])
-    parts += box(460, 360, 200, 80, "walker", ["steps along a given", "list of nodes"])
-    parts += box(240, 480, 200, 80, "rules", ["rules of access,", "and watches"])
-    parts += box(240, 600, 200, 80, "recipe", ["the file: take, check,", "read, write"])
-    parts += box(240, 720, 200, 80, "model", ["the words of the subject,", "and the mathematics"])
-    for a in [(120, 82, 120, 118), (120, 200, 120, 238), (120, 320, 120, 358), (222, 290, 458, 380),
-              (120, 440, 238, 505), (560, 440, 442, 505), (340, 560, 340, 598), (340, 680, 340, 718),
-              (560, 82, 560, 358), (340, 82, 340, 478)]:
+    # programs
+    parts += box(20, 20, 180, 62, "judge", ["prints what files come to"], "white")
+    parts += box(440, 20, 180, 62, "walk", ["follows a list of nodes"], "white")
+    parts += box(650, 20, 180, 62, "inspect", ["shows a recipe file"], "white")
+    # what they print
+    parts += box(20, 120, 180, 80, "judging", ["from a file's bytes", "to verdicts and traces"])
+    parts += box(230, 120, 180, 80, "one_link", ["a verdict with", "one edge more"])
+    parts += box(440, 120, 180, 80, "following", ["what is said of a walk,", "step by step"])
+    parts += box(650, 480, 180, 80, "explaining", ["why a file is refused:", "the rule it breaks"])
+    # the layers
+    parts += box(20, 240, 180, 80, "asking", ["the law of the answers,", "and lists of requests"])
+    parts += box(20, 360, 180, 80, "inquiry", ["the search: dig, link,", "verdict, trace"])
+    parts += box(440, 360, 180, 80, "walker", ["steps along a given", "list of nodes"])
+    parts += box(230, 480, 180, 80, "rules", ["rules of access,", "and watches"])
+    parts += box(230, 600, 180, 80, "recipe", ["the file: take, check,", "read, write"])
+    parts += box(230, 720, 180, 80, "model", ["the words of the subject,", "and the mathematics"])
+    for a in [(110, 82, 110, 118), (530, 82, 530, 118), (740, 82, 740, 478), (110, 200, 110, 238), (300, 200, 180, 238),
+              (530, 200, 530, 358), (110, 320, 110, 358), (202, 290, 438, 380), (110, 440, 228, 505), (530, 440, 412, 505),
+              (320, 560, 320, 598), (740, 560, 412, 635), (320, 680, 320, 718)]:
         parts.append(arrow(*a))
-    parts.append(text(340, 826, "An arrow: rests on (what follows from others is left out). Not drawn: showing, and what is for tests.", 12))
-    return svg(680, 840, parts, "The crates, and which rests on which")
+    # inspect also rests on the rules
+    parts.append(f'<path d="M665 82 L 636 112 L 636 530 L 412 530" fill="none" stroke="{LINE}" stroke-width="1.5" marker-end="url(#grey)"/>')
+    parts.append(text(425, 826, "An arrow: rests on (what follows from others is left out).", 12))
+    parts.append(text(425, 844, "Not drawn: showing and judge_files, which hold what programs share, and what is for tests.", 12))
+    return svg(850, 860, parts, "The crates, and which rests on which")
 
 
 def node(x, y, n, what, mark="", bad=False):
