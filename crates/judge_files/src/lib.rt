@@ -35,10 +35,10 @@ fn judge_file(rt: &HostRuntime, name: &str) -> Result<Status> {
 }
 
 const ENDS: &str =
-    "It ends with 0 where every verdict of the files is safe, 1 where one is not, 2 where a file is refused or cannot be read.";
+    "It ends with 0 where every verdict of the files is safe, 1 where one is not, 2 where a file is refused or cannot be read; with 0 after standard input, and with 1 where memory runs out or it cannot print.";
 
 // Judges the files that are named in the arguments, one after another, or what stands on the input where none is named.
-// Ends with 0 where every verdict of the files is safe, 1 where one is not, and 2 where a file is refused or cannot be read, or an argument is wrong. After the input it ends with 0.
+// Ends with 0 where every verdict of the files is safe, 1 where one is not, and 2 where a file is refused or cannot be read, or an argument is wrong. After the input it ends with 0. Want of memory, and output that fails, end it with 1.
 pub fn run(rt: &HostRuntime) -> Result<ExitCode> {
     let alloc = rt.alloc();
     let words: Vec<String> = env::args(rt)?.collect(alloc)?;

@@ -50,7 +50,7 @@ fn finding(outcome: Outcome, mut output: Vec<u32>) -> Finding
 }
 
 impl Tables {
-    // Gets the memory: the only call of this crate that fails for want of it where it shows nothing.
+    // Gets the memory, as its type has it; fails only for want of memory. Judging in it then asks for none.
     pub fn new(heap: Global) -> Result<Tables, AllocError> {
         let facts = vec![in heap; Fact::default(); FACTS]?;
         let edges = vec![in heap; Edge::default(); EDGES]?;

@@ -1,4 +1,4 @@
--- Three calls in a row: what was opened, linked and dug comes to a verdict of the linked recipe.
+-- Calls in a row: what was opened, linked, dug and closed comes to a verdict of the linked recipe.
 use Rattle.std.proofs.Common.{◌≡◌, ℕ, ◌+◌, ◌≤◌, cond, List, [], ◌∷◌, ◌++◌, length, Ok, Err, Result, sym, refl, ap, ◌∙◌, subst, arith}
 use Rattle.model.specs.declared.Edge.{Edge}
 use Rattle.model.specs.declared.Fact.{Fact}

@@ -1,32 +1,6 @@
-// What a recipe comes to with one edge more, asked by single calls of an inquiry. Its promise is in terms of runs alone: it is proved from the public contracts of the calls, and shows that these are enough for such a proof.
+// A caller of an inquiry's functions: that they promise enough, call by call, to prove what a verdict means in terms of runs alone.
 #![tactic(auto)]
 
-ghost use Rattle.std.specs.Prelude.{◌≡◌, Ok};
-ghost use Rattle.model.specs.Facts.{RunGoesBad};
-ghost use Rattle.one_link.specs.Linked.{linked_with};
-
-use asking::histories_obey_the_law;
-use inquiry::{Fact, Inquiry, Verdict};
-use recipe::{Edge, Refusal};
-use rules::{AccessRule, Subject, Watch};
-
-// The verdict of a recipe with one edge more, or why there is none: the tables do not fit, or the edge cannot be linked. Full where the facts have too few places.
-pub fn verdict_with<R: AccessRule, W: Watch>(
-    on: &Subject<R, W>,
-    facts: &mut [Fact],
-    edges: &mut [Edge],
-    edge: Edge,
-) -> Result<Verdict, Refusal>
-    ensures no_bad_run { result ≡ Ok Verdict.Safe → RunGoesBad (linked_with R.meaning W.watching on.now edge) → ⊥ }
-    ensures bad_run { result ≡ Ok Verdict.Unsafe → RunGoesBad (linked_with R.meaning W.watching on.now edge) }
-    ensures decides { result ≡ Ok Verdict.Unfinished → ⊥ }
-{
-    histories_obey_the_law();
-    let mut inquiry = Inquiry::open(on, facts, edges);
-    let linked = inquiry.link(on, edges, edge);
-    let dug = inquiry.dig(on, edges, u32::MAX);
-    let report = inquiry.close(on.watch);
-    linked?;
-    dug?;
-    Ok(report?.verdict)
-}
+mod linked;
+#[cfg(test)]
+mod verdicts;

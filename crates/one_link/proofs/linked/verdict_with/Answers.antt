@@ -4,7 +4,7 @@ use Rattle.rules.specs.Subjects.{setting_of}
 use Rattle.inquiry.specs.Calls.{in_use}
 use Rattle.inquiry.specs.Histories.{opened_on}
 use Rattle.one_link.proofs.Calls.{void_refuses, right, finishes}
-use Rattle.one_link.proofs.verdict_with.Goals as goal
+use Rattle.one_link.proofs.linked.verdict_with.Goals as goal
 
 pub returns-clause-no_bad_run : goal.returns-clause-no_bad_run
 returns-clause-no_bad_run g c =
