@@ -13,13 +13,15 @@ mod phrases;
 mod ruled;
 mod steps;
 mod transitions;
+mod watching;
 mod written;
 
 use answers::Answers;
 use listing::list_methods;
 use phrases::Many;
-use ruled::{first_entries, list_watch};
+use ruled::first_entries;
 use transitions::list_rows;
+use watching::Watching;
 use written::write_back;
 
 // How long the file is, and how many of each kind the recipe has, as a line.
@@ -66,8 +68,8 @@ fn inspect(rt: &HostRuntime, file: &[u8]) -> anyhow::Result<()> {
         recipe: &recipe,
         entries: &entries,
     };
-    print!(rt; "{answers}")?;
-    list_watch(rt, &recipe)?;
+    let watching = Watching { recipe: &recipe };
+    print!(rt; "{answers}{watching}")?;
     match write_back(rt.alloc(), &recipe, &edges, file)? {
         Ok(written) => println!(rt; "written back: {written}")?,
         Err(refusal) => println!(rt; "written back: {}", Refused(refusal))?,

@@ -5,7 +5,7 @@ use Rattle.model.specs.Program.{node_at}
 use Rattle.recipe.specs.Offence.{any_below}
 use Rattle.recipe.specs.Recipes.{program}
 use Rattle.recipe.proofs.Layers.{any_over}
-use Rattle.inspect.proofs.ruled.uses.Goals as goal
+use Rattle.inspect.proofs.watching.uses.Goals as goal
 
 pub returns : goal.returns
 returns c =
