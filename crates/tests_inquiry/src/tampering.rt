@@ -8,7 +8,7 @@ use samples::recipe_a;
 use std::test::Fail;
 
 // A place of the table and the edge that is put there, the verdict, and how many facts there are.
-const TAMPERED: [(usize, u32, u32, Verdict, u32); 6] = [
+static TAMPERED: [(usize, u32, u32, Verdict, u32); 6] = [
     // the same edge once more
     (0, 0, 1, Verdict::Unsafe, 7),
     // to another method
@@ -21,6 +21,11 @@ const TAMPERED: [(usize, u32, u32, Verdict, u32); 6] = [
     // to no node
     (3, 5, u32::MAX, Verdict::Unsafe, 5),
 ];
+
+// Handed out by a function, so that a proof of the test does not have to carry each of them.
+fn tampered() -> &'static [(usize, u32, u32, Verdict, u32)] {
+    &TAMPERED
+}
 
 // Opens, puts an edge into the table, and digs. The fifth place, which is not in use, has an edge that would count behind 5-4.
 fn dig_tampered(recipe: &Recipe, place: usize, edge: Edge) -> Result<Report, Refusal> {
@@ -43,7 +48,7 @@ fn dig_tampered(recipe: &Recipe, place: usize, edge: Edge) -> Result<Report, Ref
 #[test]
 fn tampered_edges_count_by_the_rules(rt: HostRuntime) -> Result<(), Fail> {
     let recipe = recipe_of(recipe_a::file())?;
-    for (place, from, to, verdict, facts) in TAMPERED {
+    for &(place, from, to, verdict, facts) in tampered() {
         let report = dig_tampered(&recipe, place, Edge { from, to });
         let expected = all_worked(verdict, facts);
         assert_eq!(rt; report, Ok(expected), "place {place}: {from}-{to}");

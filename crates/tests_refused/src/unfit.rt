@@ -13,7 +13,7 @@ use std::test::Fail;
 type Answer = Result<(), Refusal>;
 
 // Fact places, edge places, and what each call answers. Recipe A has four edges.
-const TABLES: [(usize, usize, Answer); 8] = [
+static TABLES: [(usize, usize, Answer); 8] = [
     (0, 4, Ok(())),
     (7, 3, Err(UnfitTable)),
     (7, 0, Err(UnfitTable)),
@@ -24,8 +24,13 @@ const TABLES: [(usize, usize, Answer); 8] = [
     (65537, 4097, Err(UnfitTable)),
 ];
 
+// Handed out by a function, so that a proof of the test does not have to carry each of them.
+fn tables() -> &'static [(usize, usize, Answer)] {
+    &TABLES
+}
+
 // How many more than 65,535 values and states there are, edge places, and the answer: too many values or states come first.
-const COUNTS: [(u16, u16, usize, Answer); 6] = [
+static COUNTS: [(u16, u16, usize, Answer); 6] = [
     (1, 1, 4, Ok(())),
     (0, 0, 4, Ok(())),
     (2, 1, 4, Err(TooMany)),
@@ -33,6 +38,11 @@ const COUNTS: [(u16, u16, usize, Answer); 6] = [
     (2, 2, 3, Err(TooMany)),
     (1, 1, 3, Err(UnfitTable)),
 ];
+
+// Handed out by a function, so that a proof of the test does not have to carry each of them.
+fn counts() -> &'static [(u16, u16, usize, Answer)] {
+    &COUNTS
+}
 
 // What a dig, a verdict and the end of an inquiry answer.
 fn told<R: AccessRule, W: Watch>(on: &Subject<R, W>, tables: &mut Tables) -> [Answer; 3] {
@@ -74,7 +84,7 @@ fn tables_that_do_not_fit(rt: HostRuntime) -> Result<(), Fail> {
         rule: &Idle { more: 1 },
         watch: &TableWatch { recipe },
     };
-    for (facts, edges, expected) in TABLES {
+    for &(facts, edges, expected) in tables() {
         let case = format!(in rt.alloc(); "{facts} fact places, {edges} edge places")?;
         check_fit(&rt, &on, (facts, edges), expected, &case)?;
     }
@@ -84,7 +94,7 @@ fn tables_that_do_not_fit(rt: HostRuntime) -> Result<(), Fail> {
 #[test]
 fn counts_that_do_not_fit(rt: HostRuntime) -> Result<(), Fail> {
     let recipe = &recipe_of(recipe_a::file())?;
-    for (values, states, edges, expected) in COUNTS {
+    for &(values, states, edges, expected) in counts() {
         let on = Subject {
             recipe,
             rule: &Idle { more: values },
