@@ -1,6 +1,6 @@
 // An entry of each method.
 ghost use Rattle.std.specs.Prelude.{◌≡◌, ℕ, ◌<◌, true, length, IfOk, slice_index};
-ghost use Rattle.model.specs.Access.{is_entry_of};
+ghost use Rattle.model.specs.Program.{is_entry_of};
 ghost use Rattle.recipe.specs.Recipes.{program};
 
 use recipe::Recipe;

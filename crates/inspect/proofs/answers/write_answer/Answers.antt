@@ -1,6 +1,5 @@
-use Rattle.std.proofs.Common.{◌≡◌, ℕ, List, ◌++◌, codes, slice_index, inl, inr, sym, refl, ap, ◌∙◌, arith, rules}
+use Rattle.std.proofs.Common.{◌≡◌, ℕ, List, ◌++◌, codes, slice_index, inl, inr, sym, ap, ◌∙◌, rules}
 use Rattle.std.proofs.Output.{has_written_of_eq, writes_in_calls_nil}
-use Rattle.std.proofs.lemmas.Grind.{common_steps}
 use Rattle.model.specs.Access.{history, stack_inspection}
 use Rattle.model.specs.declared.Node.{Node}
 use Rattle.recipe.specs.Recipes.{program}

@@ -1,4 +1,4 @@
-use Rattle.std.proofs.Common.{refl, add-one, arith}
+use Rattle.std.proofs.Common.{refl, add-one}
 use Rattle.std.proofs.Output.{has_written_append, writes_in_calls_nil}
 use Rattle.inspect.specs.Answers.{answers_of}
 use Rattle.inspect.proofs.answers.AnswersDisplay.fmt.Goals as goal
