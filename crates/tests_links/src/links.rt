@@ -1,7 +1,7 @@
 // Links: where a new edge comes to stand, and what digging finds then.
 use crate::steps::{Step, Told, check_walked, taken};
 use crate::tables::{Tables, all_worked, check_edges, check_facts, check_output};
-use inquiry::{Inquiry, Report, Verdict};
+use inquiry::{Inquiry, Verdict};
 use recipe::{Edge, Recipe, Refusal, recipe_of};
 use rules::{StackInspection, Subject, TableWatch};
 use samples::building::Parts;
@@ -26,21 +26,14 @@ fn without_4_5(heap: Global) -> Result<Vec<u8>, AllocError> {
     parts.file(heap)
 }
 
-// What links come to: so many places for facts and for edges, the report, and the rows and the edges that stand in the tables then.
-#[derive(Drop)]
-pub(crate) struct Expected<'a> {
-    pub(crate) places: (usize, usize),
-    pub(crate) report: Report,
-    pub(crate) rows: &'a [Row],
-    pub(crate) edges: &'a [Edge],
-}
-
 // Opens a recipe under stack inspection, and takes the steps. Then the facts and edges stand in the tables, with nothing written past them, and the trace is that of recipe A, a bad run.
-pub(crate) fn check_linked(
+fn check_linked(
     rt: &(impl Abort + AllocGlobal),
     file: &[u8],
     steps: &[Told],
-    expected: Expected,
+    facts: u32,
+    rows: &[Row],
+    edges: &[Edge],
 ) -> Result<(), Fail> {
     let recipe = &recipe_of(file)?;
     let on = Subject {
@@ -48,17 +41,11 @@ pub(crate) fn check_linked(
         rule: &StackInspection,
         watch: &TableWatch { recipe },
     };
-    let Expected {
-        places: (facts, room),
-        report: expected,
-        rows,
-        edges,
-    } = expected;
-    let mut tables = Tables::marked(rt.alloc(), facts, room)?;
+    let mut tables = Tables::marked(rt.alloc(), 9, 7)?;
     let mut out = [MARK_NODE; 7];
     let (told, report) = taken(rt, &on, &mut tables, steps, &mut out);
     assert_eq!(rt; told, Ok(5));
-    assert_eq!(rt; report, Ok(expected));
+    assert_eq!(rt; report, Ok(all_worked(Verdict::Unsafe, facts)));
     check_facts(rt, &tables.facts, rows)?;
     check_edges(rt, &tables.edges, edges);
     check_output(rt, &out, &TRACE);
@@ -75,13 +62,8 @@ const MENDED: [Told; 3] = [
 #[test]
 fn the_missing_edge_is_linked(rt: HostRuntime) -> Result<(), Fail> {
     let file = without_4_5(rt.alloc())?;
-    let expected = Expected {
-        places: (9, 7),
-        report: all_worked(Verdict::Unsafe, 7),
-        rows: stack_rows(),
-        edges: recipe_a::parts().edges,
-    };
-    check_linked(&rt, &file, &MENDED, expected)
+    let edges = recipe_a::parts().edges;
+    check_linked(&rt, &file, &MENDED, 7, stack_rows(), edges)
 }
 
 // 4-5 is overwritten by no edge, 9-9. A new 4-5 is linked behind that, and is found by the inquiry and the walker alike.
@@ -102,13 +84,8 @@ const BEHIND_9_9: [Edge; 5] = [
 
 #[test]
 fn an_overwritten_edge_is_linked(rt: HostRuntime) -> Result<(), Fail> {
-    let expected = Expected {
-        places: (9, 7),
-        report: all_worked(Verdict::Unsafe, 7),
-        rows: stack_rows(),
-        edges: &BEHIND_9_9,
-    };
-    check_linked(&rt, recipe_a::file(), &OVERWRITTEN, expected)
+    let file = recipe_a::file();
+    check_linked(&rt, file, &OVERWRITTEN, 7, stack_rows(), &BEHIND_9_9)
 }
 
 // 5-6 stands at the sixth place alone, past those in use: it leads nowhere, a new edge does not come to stand next to it, and it is not held. At last it is linked, and stands at that place by right.
@@ -145,13 +122,7 @@ const PAST_EDGES: [Edge; 6] = [
 
 #[test]
 fn an_edge_past_those_in_use_is_none(rt: HostRuntime) -> Result<(), Fail> {
-    let expected = Expected {
-        places: (9, 7),
-        report: all_worked(Verdict::Unsafe, 8),
-        rows: &PAST_ROWS,
-        edges: &PAST_EDGES,
-    };
-    check_linked(&rt, recipe_a::file(), &PAST, expected)
+    check_linked(&rt, recipe_a::file(), &PAST, 8, &PAST_ROWS, &PAST_EDGES)
 }
 
 // Four edges that are in use, the new one, and the five that are in use then.
@@ -226,11 +197,6 @@ static CASES: [Case; 12] = [
     ),
 ];
 
-// Handed out by a function, so that a proof of the test does not have to carry each of them.
-fn cases() -> &'static [Case] {
-    &CASES
-}
-
 fn edge((from, to): (u32, u32)) -> Edge {
     Edge { from, to }
 }
@@ -260,7 +226,7 @@ fn link_among(
 #[test]
 fn a_new_edge_takes_its_rising_place(rt: HostRuntime) -> Result<(), Fail> {
     let recipe = recipe_of(recipe_a::file())?;
-    for &(held, new, expected) in cases() {
+    for (held, new, expected) in CASES {
         let (edges, told) = link_among(&recipe, held, new);
         assert_eq!(rt; told, Ok(5), "{new:?} among {held:?}");
         check_edges(&rt, &edges, &expected.map(edge));

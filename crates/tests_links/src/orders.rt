@@ -4,7 +4,7 @@ use crate::tables::{Tables, all_worked, check_edges, check_output};
 use inquiry::{Fact, Report, Verdict, inquire};
 use recipe::Refusal::{self, NotUnsafe};
 use recipe::{Edge, recipe_of};
-use rules::{AccessRule, History, StackInspection, Subject, TableWatch, Watch};
+use rules::{AccessRule, History, StackInspection, Subject, TableWatch};
 use samples::building::Parts;
 use samples::marks::MARK_NODE;
 use samples::recipe_a;
@@ -142,51 +142,21 @@ struct Common {
     trace: Result<&'static [u32], Refusal>,
 }
 
-// The table has the same facts as another, each once.
-fn check_same(rt: &impl Abort, facts: &[Fact], whole: &[Fact], steps: &[Told]) -> Result<(), Fail> {
-    let found = facts.get(..whole.len()).ok_or("more facts than places")?;
-    assert!(rt; among(found, whole) && among(whole, found), "{steps:?}");
-    Ok(())
-}
-
-// One order: the edges are the same as in any other, and so are the facts, and the trace is that of a bad run.
-fn check_order<R: AccessRule, W: Watch>(
-    rt: &(impl Abort + AllocGlobal),
-    on: &Subject<R, W>,
-    steps: &[Told],
-    common: Common,
-    whole: &[Fact],
-) -> Result<(), Fail> {
-    let Common {
-        verdict,
-        facts,
-        trace,
-    } = common;
-    let mut tables = Tables::marked(rt.alloc(), PLACES, 8)?;
-    let mut out = [MARK_NODE; 6];
-    let (told, report) = taken(rt, on, &mut tables, steps, &mut out);
-    assert_eq!(rt; report, Ok(all_worked(verdict, facts)), "{steps:?}");
-    let length = told.map(|nodes| nodes as usize);
-    assert_eq!(rt; length, trace.map(|nodes| nodes.len()), "{steps:?}");
-    check_edges(rt, &tables.edges, &ALL);
-    check_same(rt, &tables.facts, whole, steps)?;
-    check_output(rt, &out, trace.unwrap_or(&[]));
-    if let Ok(nodes) = trace {
-        check_walked(rt, on, &tables.edges, 6, nodes, "in orders")?;
-    }
-    Ok(())
-}
-
-// Each order in turn, on recipe A with no edge of its own.
+// Each order in turn, on recipe A with no edge of its own: the edges are the same then, and so are the facts, each held once, and the trace is that of a bad run.
 fn check_orders<R: AccessRule>(
     rt: &(impl Abort + AllocGlobal),
     rule: &R,
     orders: &[&[Told]],
     common: Common,
 ) -> Result<(), Fail> {
-    let Common { verdict, facts, .. } = common;
+    let Common {
+        verdict,
+        facts,
+        trace,
+    } = common;
+    let held = facts as usize;
     let whole = facts_with_all(rt, rule, all_worked(verdict, facts))?;
-    let whole = whole.get(..facts as usize).ok_or("more facts than places")?;
+    let whole = whole.get(..held).ok_or("more facts than places")?;
     let file = with_edges(rt.alloc(), &[])?;
     let recipe = &recipe_of(&file)?;
     let on = Subject {
@@ -195,7 +165,22 @@ fn check_orders<R: AccessRule>(
         watch: &TableWatch { recipe },
     };
     for &steps in orders {
-        check_order(rt, &on, steps, common, whole)?;
+        let mut tables = Tables::marked(rt.alloc(), PLACES, 8)?;
+        let mut out = [MARK_NODE; 6];
+        let (told, report) = taken(rt, &on, &mut tables, steps, &mut out);
+        assert_eq!(rt; report, Ok(all_worked(verdict, facts)), "{steps:?}");
+        let length = told.map(|nodes| nodes as usize);
+        assert_eq!(rt; length, trace.map(|nodes| nodes.len()), "{steps:?}");
+        check_edges(rt, &tables.edges, &ALL);
+        let found = tables.facts.get(..held).ok_or("more facts than places")?;
+        assert!(rt; among(found, whole), "{steps:?}");
+        assert!(rt; among(whole, found), "{steps:?}");
+        if let Ok(nodes) = trace {
+            check_output(rt, &out, nodes);
+            check_walked(rt, &on, &tables.edges, 6, nodes, "in orders")?;
+        } else {
+            check_output(rt, &out, &[]);
+        }
     }
     Ok(())
 }

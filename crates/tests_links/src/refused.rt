@@ -1,11 +1,12 @@
 // Links that are refused after others, and in a full inquiry that is unsafe: nothing changes.
-use crate::links::{Expected, check_linked};
-use crate::steps::{Step, Told};
-use crate::tables::first_rows;
+use crate::steps::{Step, Told, check_walked, taken};
+use crate::tables::{Tables, check_edges, check_facts, check_output, first_rows};
 use inquiry::{Report, Verdict};
-use recipe::Edge;
 use recipe::Refusal::{EdgeHeld, EdgesFull, InquiryFull, NotAnEdge};
-use samples::recipe_a;
+use recipe::{Edge, recipe_of};
+use rules::{StackInspection, Subject, TableWatch};
+use samples::marks::MARK_NODE;
+use samples::recipe_a::{self, TRACE};
 use samples::rows::stack_rows;
 use std::test::Fail;
 
@@ -29,17 +30,22 @@ const WITH_1_1: [Edge; 5] = [
 
 #[test]
 fn after_a_link(rt: HostRuntime) -> Result<(), Fail> {
-    let expected = Expected {
-        places: (9, 5),
-        report: Report {
-            verdict: Verdict::Unsafe,
-            held: 7,
-            worked: 1,
-        },
-        rows: stack_rows(),
-        edges: &WITH_1_1,
+    let recipe = &recipe_of(recipe_a::file())?;
+    let on = Subject {
+        recipe,
+        rule: &StackInspection,
+        watch: &TableWatch { recipe },
     };
-    check_linked(&rt, recipe_a::file(), &AFTER_A_LINK, expected)
+    let mut tables = Tables::marked(rt.alloc(), 9, 5)?;
+    let (_, report) = taken(&rt, &on, &mut tables, &AFTER_A_LINK, &mut []);
+    let expected = Report {
+        verdict: Verdict::Unsafe,
+        held: 7,
+        worked: 1,
+    };
+    assert_eq!(rt; report, Ok(expected));
+    check_edges(&rt, &tables.edges, &WITH_1_1);
+    check_facts(&rt, &tables.facts, stack_rows())
 }
 
 // In five places recipe A has its first bad fact, and no place for the next one: the verdict is unsafe, and the inquiry is full nevertheless.
@@ -51,15 +57,24 @@ const FULL_AND_UNSAFE: [Told; 3] = [
 
 #[test]
 fn full_and_unsafe(rt: HostRuntime) -> Result<(), Fail> {
-    let expected = Expected {
-        places: (5, 5),
-        report: Report {
-            verdict: Verdict::Unsafe,
-            held: 5,
-            worked: 4,
-        },
-        rows: first_rows(stack_rows(), 5)?,
-        edges: recipe_a::parts().edges,
+    let recipe = &recipe_of(recipe_a::file())?;
+    let on = Subject {
+        recipe,
+        rule: &StackInspection,
+        watch: &TableWatch { recipe },
     };
-    check_linked(&rt, recipe_a::file(), &FULL_AND_UNSAFE, expected)
+    let mut tables = Tables::marked(rt.alloc(), 5, 5)?;
+    let mut out = [MARK_NODE; 5];
+    let (told, report) = taken(&rt, &on, &mut tables, &FULL_AND_UNSAFE, &mut out);
+    let expected = Report {
+        verdict: Verdict::Unsafe,
+        held: 5,
+        worked: 4,
+    };
+    assert_eq!(rt; report, Ok(expected));
+    check_edges(&rt, &tables.edges, recipe_a::parts().edges);
+    check_facts(&rt, &tables.facts, first_rows(stack_rows(), 5)?)?;
+    assert_eq!(rt; told, Ok(5));
+    check_output(&rt, &out, &TRACE);
+    check_walked(&rt, &on, &tables.edges, 4, &TRACE, "full and unsafe")
 }
