@@ -1,12 +1,13 @@
 // Recipe A without its edge from 4 to 5, linked by single calls and then written.
 use asking::write_linked;
-use inquiry::{Fact, Inquiry, Verdict};
+use inquiry::{Fact, Inquiry, Report, Verdict};
 use judging::judge;
 use recipe::Refusal::{ShortOutput, UnfitTable};
 use recipe::{Edge, recipe_of};
 use rules::{StackInspection, Subject, TableWatch};
 use samples::building::Parts;
 use samples::recipe_a;
+use std::process::Abort;
 use std::test::Fail;
 
 const BEFORE: [Edge; 3] = [
@@ -14,6 +15,16 @@ const BEFORE: [Edge; 3] = [
     Edge { from: 1, to: 2 },
     Edge { from: 5, to: 6 },
 ];
+
+// An output holds recipe A's file and one byte more, and the file is judged as an inquiry reported.
+fn check_written(rt: &(impl Abort + AllocGlobal), out: &[u8], report: &Report) -> Result<(), Fail> {
+    assert_eq!(rt; out.len(), 165);
+    assert_eq!(rt; out[..164], recipe_a::file()[..]);
+    assert_eq!(rt; out[164], 9);
+    let judgement = judge(rt.alloc(), &out[..164])?;
+    assert_eq!(rt; judgement.stack.report, *report);
+    Ok(())
+}
 
 // With the link it is recipe A, byte for byte, and unsafe under stack inspection, as the inquiry says.
 #[test]
@@ -42,12 +53,8 @@ fn the_verdict_is_that_of_the_inquiry(rt: HostRuntime) -> Result<(), Fail> {
     assert!(&rt; dug.is_ok());
     assert_eq!(&rt; short, Err(ShortOutput { needed: 164 }));
     assert_eq!(&rt; written, Ok(164));
-    assert_eq!(&rt; out[..164], recipe_a::file()[..]);
-    assert_eq!(&rt; out[164], 9);
     assert_eq!(&rt; report.verdict, Verdict::Unsafe);
-    let judgement = judge(rt.alloc(), &out[..164])?;
-    assert_eq!(&rt; judgement.stack.report, report);
-    Ok(())
+    check_written(&rt, &out, &report)
 }
 
 // A void inquiry writes nothing.
