@@ -1,5 +1,5 @@
 -- What is said of a walk: bytes of text.
-use Rattle.std.specs.Prelude.{ℕ, ◌+◌, if◌then◌else◌, List, [], ◌∷◌, ◌++◌, length, replicate, Some, None, Ok, Err, Option, Result, is_ok, codes, bytes_eq}
+use Rattle.std.specs.Prelude.{ℕ, Bool, false, ◌+◌, if◌then◌else◌, List, [], ◌∷◌, ◌++◌, length, replicate, Some, None, Ok, Err, Option, Result, is_ok, codes, bytes_eq}
 use Rattle.std.specs.Fmt.{decimal}
 use Rattle.std.specs.Option.{unwrap_or}
 use Rattle.model.specs.Access.{Rule, history, stack_inspection}
@@ -79,3 +79,8 @@ words_text name bs (Err place) = codes "the word at place " ++ (decimal place ++
 abbrev pub text_of : List ℕ → List (List ℕ) → List ℕ
 text_of bs [] = usage
 text_of bs (name ∷ words) = words_text name bs (numbers_in words)
+
+-- whether that hangs on the file: there is a rule's name, and each word behind it says a number
+abbrev pub asks_file : List (List ℕ) → Bool
+asks_file [] = false
+asks_file (name ∷ words) = is_ok (numbers_in words)

@@ -5,4 +5,4 @@ mod lines;
 mod numbers;
 mod telling;
 
-pub use telling::told;
+pub use telling::{asks_file, told};

@@ -1,10 +1,10 @@
 // Goes along a list of nodes, and tells of each step.
-ghost use Rattle.std.specs.Prelude.{◌≡◌, ◌++◌, map, take, IfOk, OnOk};
+ghost use Rattle.std.specs.Prelude.{◌≡◌, ℕ, List, ◌++◌, false, map, take, IfOk, OnOk};
 ghost use Rattle.std.specs.String.{string_bytes};
 ghost use Rattle.recipe.specs.Recipes.{file_of};
 ghost use Rattle.rules.specs.Subjects.{setting_of};
 ghost use Rattle.following.specs.Right.{Right};
-ghost use Rattle.following.specs.Told.{rest_text, walk_text, text_of};
+ghost use Rattle.following.specs.Told.{rest_text, walk_text, text_of, asks_file};
 
 use crate::lines::{tell, tell_end};
 use crate::numbers::numbers;
@@ -102,4 +102,15 @@ pub fn told(heap: Global, file: &[u8], words: &[String]) -> Result<String, Alloc
     ensures right { IfOk result (λ text. Right file.now (map string_bytes words.now) (string_bytes text)) }
 {
     said(heap, file, words)
+}
+
+// Whether what is said of these words hangs on a file: there is a rule's name, and each word behind it is a number of a node. Where it does not, none has to be read. Refused for want of memory alone.
+pub fn asks_file(heap: Global, words: &[String]) -> Result<bool, AllocError>
+    ensures answer { IfOk result (λ asks. asks ≡ asks_file (map string_bytes words.now)) }
+    ensures alike { IfOk result (λ asks. asks ≡ false → (bs cs : List ℕ) → text_of bs (map string_bytes words.now) ≡ text_of cs (map string_bytes words.now)) }
+{
+    let Some((_rule, words)) = words.split_first() else {
+        return Ok(false);
+    };
+    Ok(numbers(heap, words)?.is_ok())
 }
