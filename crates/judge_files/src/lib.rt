@@ -4,7 +4,7 @@
 use anyhow::Result;
 use clap::{Arg, ArgAction, Command};
 use judging::{Named, Status, Tables, exit_status};
-use std::io::Read;
+use std::io::{ErrorKind, Read};
 use std::process::ExitCode;
 use std::{env, fs};
 
@@ -17,10 +17,12 @@ fn judge_input(rt: &HostRuntime) -> Result<()> {
     Ok(())
 }
 
-// Judges a file and prints its name and its verdicts; one that cannot be read gets a line on the standard error.
+// Judges a file and prints its name and its verdicts; one that cannot be read gets a line on the standard error. Fails where memory runs out, or it cannot print.
 fn judge_file(rt: &HostRuntime, name: &str) -> Result<Status> {
     let file = match fs::read(rt, name) {
         Ok(file) => file,
+        // want of memory says nothing of this file, and ends the program
+        Err(error) if error.kind() == ErrorKind::OutOfMemory => return Err(error.into()),
         Err(error) => {
             eprintln!(rt; "judge: {name}: {error}")?;
             return Ok(Status::NotJudged);
