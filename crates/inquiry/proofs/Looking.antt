@@ -1,17 +1,23 @@
--- Steps of a look through the rows of a table.
+-- Steps of a look through the rows of a table, and through the edges.
 use Rattle.std.proofs.Common.{◌≡◌, ℕ, zero, suc, ◌<◌, ◌≤◌, true, false, ◌||◌, List, [], ◌∷◌, length, Some, None, Option, is_some, IfSome, MatchOption, slice_index_or, sym, refl, ap, ◌∙◌, arith}
 use Rattle.std.specs.List.{list_any, AllWithin, HoldsAt}
 use Rattle.std.proofs.lemmas.Bool.{cond-true, cond-false}
 use Rattle.std.proofs.lemmas.List.Elements.{All-from_all_within}
 use Rattle.std.proofs.lemmas.List.Folds.{list_any_none, list_any_at}
+use Rattle.model.specs.declared.Edge.{Edge}
 use Rattle.model.specs.declared.Fact.{Fact}
-use Rattle.model.specs.Tables.{no_fact, same_fact, is_held, any_bad, first_bad}
+use Rattle.model.specs.Tables.{no_fact, same_fact, is_held, targets, any_bad, first_bad}
 use Rattle.model.specs.Watches.{Watch}
 use Rattle.inquiry.specs.declared.Inquiry.{Inquiry}
 
 -- the rows have their places in the table
 pub rows_fit : (t : Inquiry) → t.held ≤ length t.facts.now
 rows_fit t = omega (arith, t.within, t.lent)
+
+-- where no edge is left, none leads on
+pub targets_none : (node : ℕ) {es : List Edge} → es ≡ [] → targets es node ≡ []
+unfolding targets
+targets_none node e = ap (λ ds. targets ds node) e
 
 -- some row is bad if the watch says so of one
 pub any_bad_is : (W : Watch) (rows : List Fact) → list_any (λ (r : Fact). W.bad r.state) rows ≡ any_bad W rows

@@ -1,5 +1,5 @@
 -- Calls made one by one are requests of a history: each is answered as the next one, and leads the inquiry on.
-use Rattle.std.proofs.Common.{◌≡◌, ℕ, ◌+◌, Bool, true, false, cond, ◌&&◌, eqb, List, [], ◌∷◌, ◌++◌, length, take, drop, Ok, Err, Result, sym, refl, ap, ◌∙◌, subst, arith}
+use Rattle.std.proofs.Common.{◌≡◌, ℕ, ◌+◌, Bool, true, false, cond, ◌&&◌, eqb, List, [], ◌++◌, length, take, drop, Ok, Err, Result, sym, refl, ap, ◌∙◌, subst, arith}
 use Rattle.std.proofs.lemmas.Bool.{and_from, eq-eqb, cond-true}
 use Rattle.std.proofs.lemmas.List.{take_at, length-append, length-drop, length-take-le}
 use Rattle.model.specs.declared.Edge.{Edge}
@@ -27,10 +27,9 @@ use Rattle.inquiry.specs.declared.requests.Request.TheVariants.{Dig, Link, Verdi
 use Rattle.inquiry.specs.declared.requests.Reply.{Reply}
 use Rattle.inquiry.specs.declared.requests.Reply.TheVariants.{Dug as Dig_done, Linked, Judged, Traced}
 use Rattle.inquiry.specs.Calls.{Allowed, answered, unless, in_use, counts_fit, tables_fit, counts_of, same_counts, void_or, opening_of, dig_answer, dug_from, link_allowed, link_answer, trace_length, trace_allowed, trace_answer, trace_output, report_of}
-use Rattle.inquiry.specs.Histories.{Opened, opened_on, fit_of, Standing, begun, with_table, may_trace, dug_at, answer, step, output_by, after, after_from}
+use Rattle.inquiry.specs.Histories.{Opened, opened_on, fit_of, Standing, with_table, may_trace, dug_at, answer, step, after, after_from}
 use Rattle.inquiry.specs.Inquiries.{state_of, Grown, Kept}
 use Rattle.inquiry.specs.Reached.{Represents, Reached, replied, IsNext, IsNextTrace, IsEnd}
-use Rattle.inquiry.proofs.Allowed.{by_allowed, by_cases}
 use Rattle.inquiry.proofs.Allowing.{link_cases}
 use Rattle.inquiry.proofs.Answering.{held_is}
 use Rattle.inquiry.proofs.Going.{after_one}

@@ -3,9 +3,9 @@ use Rattle.std.proofs.Common.{◌≡◌, ℕ, zero, suc, ◌+◌, ◌<◌, ◌�
 use Rattle.std.proofs.lemmas.List.{length-take-le}
 use Rattle.std.proofs.lemmas.Bool.{cond-true, cond-false, cond_both, and_from, and_left, and_right, not_from_true, not_from_false, lt-ltb, le-ltb}
 use Rattle.model.specs.declared.Fact.{Fact}
-use Rattle.model.specs.declared.Kind.TheVariants.{Call, Check}
+use Rattle.model.specs.declared.Kind.TheVariants.{Call, Check, Return}
 use Rattle.model.specs.Facts.{Setting, kind_at}
-use Rattle.model.specs.Tables.{Search, row_at, end_of, each_from, joins, backs, enters, follows, return_at, offers_by, offers, offer_all, finish, work, pending, dug}
+use Rattle.model.specs.Tables.{Search, row_at, end_of, each_from, joins, backs, enters, follows, return_at, call_at, offers_by, offers, offer_all, finish, work, pending, dug}
 use Rattle.model.proofs.Held.{offers_nil, offers_append, offers_worked}
 use Rattle.inquiry.specs.declared.Inquiry.{Inquiry}
 use Rattle.inquiry.specs.Inquiries.{state_of, Grown}
@@ -18,6 +18,13 @@ pub not_passed : (X : Setting) (t : Inquiry) (i : ℕ) (f : Fact) (required : �
 not_passed X t i f required kind fails =
     sym (ap (λ k. offer_all t.places (state_of t) (offers_by X (state_of t).rows i f k)) kind
     ∙ ap (offer_all t.places (state_of t)) (cond-false (X.rule.pass f.value f.node) (follows X i f) [] fails) ∙ offers_nil t.places (state_of t))
+
+-- a return that comes back to no call offers nothing
+pub returns_nowhere : (X : Setting) (t : Inquiry) (i : ℕ) (f : Fact) → kind_at X (end_of f) ≡ Return → each_from 0 i (call_at X (state_of t).rows i f) ≡ []
+    → state_of t ≡ offer_all t.places (state_of t) (offers_by X (state_of t).rows i f (kind_at X (end_of f)))
+returns_nowhere X t i f kind none =
+    sym (ap (λ k. offer_all t.places (state_of t) (offers_by X (state_of t).rows i f k)) kind
+    ∙ ap (offer_all t.places (state_of t)) none ∙ offers_nil t.places (state_of t))
 
 -- the return facts before a call are the same after the table has grown
 returns_same : (X : Setting) {b e : Inquiry} → Grown b e → (i : ℕ) (f : Fact) → i ≤ b.held → each_from 0 i (return_at X (state_of e).rows i f) ≡ each_from 0 i (return_at X (state_of b).rows i f)
@@ -36,6 +43,14 @@ called X {b} {e} t i f callee grant accept le kind entered g joined =
     ∙ ap (λ s. offer_all b.places s (each_from 0 i (return_at X (state_of b).rows i f))) entered
     ∙ sym (offers_append b.places (state_of b) (enters X callee i f) (each_from 0 i (return_at X (state_of b).rows i f)))
     ∙ sym (ap (λ k. offer_all b.places (state_of b) (offers_by X (state_of b).rows i f k)) kind)
+
+-- a call that no return fact before it comes back to offers the entries of its callee alone
+pub called_alone : (X : Setting) {b e : Inquiry} (i : ℕ) (f : Fact) (callee grant accept : ℕ) {privileged : Bool} → i ≤ b.held → kind_at X (end_of f) ≡ Call callee grant accept privileged
+    → state_of e ≡ offer_all b.places (state_of b) (enters X callee i f) → Grown b e → each_from 0 i (return_at X (state_of b).rows i f) ≡ []
+    → state_of e ≡ offer_all b.places (state_of b) (offers_by X (state_of b).rows i f (kind_at X (end_of f)))
+called_alone X {b} {e} i f callee grant accept le kind entered g none =
+    called X e i f callee grant accept le kind entered g
+    (sym (ap (offer_all e.places (state_of e)) (returns_same X g i f le ∙ none) ∙ offers_nil e.places (state_of e)))
 
 -- what the first unworked row offers
 offers_is : (X : Setting) (b : Inquiry) → b.worked < b.held → offers_by X (state_of b).rows b.worked (row_at b.facts.now b.worked) (kind_at X (end_of (row_at b.facts.now b.worked))) ≡ offers X (state_of b).rows b.worked

@@ -1,5 +1,5 @@
 -- Histories: an inquiry that is asked one request after another. Where it stands then, what each request is answered, which links were accepted, and what an output holds.
-use Rattle.std.specs.Prelude.{ℕ, ◌+◌, List, [], ◌∷◌, ◌++◌, length, Ok, Err, Result}
+use Rattle.std.specs.Prelude.{ℕ, ◌+◌, List, [], ◌∷◌, ◌++◌, length, Ok, Result}
 use Rattle.model.specs.declared.Edge.{Edge}
 use Rattle.model.specs.Access.{Rule}
 use Rattle.model.specs.Facts.{Setting}

@@ -5,10 +5,13 @@ use Rattle.model.specs.Access.{Rule}
 use Rattle.model.specs.Facts.{Setting}
 use Rattle.model.specs.Program.{Program}
 use Rattle.model.specs.Watches.{Watch}
+use Rattle.recipe.specs.Sequences.{left_in_list}
 use Rattle.rules.specs.Subjects.{setting_of}
-use Rattle.model.specs.Tables.{Search, row_at}
+use Rattle.model.specs.Tables.{Search, row_at, targets}
 use Rattle.inquiry.specs.declared.Inquiry.{Inquiry}
+use Rattle.inquiry.specs.declared.leading.Sought.{Sought as SoughtTargets}
 use Rattle.inquiry.specs.declared.leading.Targets.{Targets}
+use Rattle.inquiry.specs.declared.leading.Targets.TheVariants.{Laid, Sought}
 use Rattle.inquiry.specs.declared.placed.Placed.{Placed}
 use Rattle.inquiry.specs.declared.scene.Scene.{Scene}
 
@@ -41,9 +44,13 @@ pub record Kept (before after : Inquiry) : Type 0 where
 abbrev pub scene_of : {R W : Type 0} → (R → Program → Rule) → (W → Watch) → Scene R W → Setting
 scene_of meaning watching lent = setting_of meaning watching lent.on.now lent.edges.now
 
--- the nodes to which the edges of a node lead that are left to go through
+-- the nodes to which the edges of a node lead that are left to go through: those of the edges that are left, where they are sought
+abbrev pub left_sought : SoughtTargets → List ℕ
+left_sought s = targets (left_in_list s.edges) s.node
+
 abbrev pub left_targets : Targets → List ℕ
-left_targets s = iter_rest s.laid
+left_targets (Laid laid) = iter_rest laid
+left_targets (Sought s) = left_sought s
 
 -- the first number from one on, before another, that passes a test, if any does
 abbrev pub FirstFrom : (ℕ → Bool) → ℕ → ℕ → Option ℕ → Type 0

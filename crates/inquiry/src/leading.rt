@@ -3,17 +3,42 @@ ghost use Rattle.std.specs.Prelude.{◌≡◌};
 ghost use Rattle.model.specs.Program.{counted};
 ghost use Rattle.model.specs.Tables.{targets};
 ghost use Rattle.recipe.specs.Recipes.{program};
-ghost use Rattle.inquiry.specs.Inquiries.{left_targets};
+ghost use Rattle.inquiry.specs.Inquiries.{left_sought, left_targets};
 
 use crate::laying::{NO_PART, Part};
 use crate::scene::Scene;
+use recipe::Counted;
 use rules::{AccessRule, Watch};
 use std::slice;
 
-// The nodes to which the edges of a node lead, one after another.
+// The nodes to which the edges of a node lead, sought among all edges that count.
 #[derive(Drop)]
-pub(crate) struct Targets<'s> {
-    laid: slice::Iter<'s, u32>,
+pub(crate) struct Sought<'s> {
+    edges: Counted<'s>,
+    node: u32,
+}
+
+impl Iterator for Sought<'_> {
+    type Item = u32;
+
+    ghost use Rattle.std.specs.Iterator.{YieldsFirst, item_count};
+
+    ghost next_gives = { YieldsFirst left_sought };
+
+    ghost remaining = { item_count left_sought };
+
+    fn next(&mut self) -> Option<u32> {
+        let node = self.node;
+        let edge = self.edges.find(|edge| edge.from == node)?;
+        Some(edge.to)
+    }
+}
+
+// The nodes to which the edges of a node lead, one after another: as they are laid, or sought where they are not.
+#[derive(Drop)]
+pub(crate) enum Targets<'s> {
+    Laid(slice::Iter<'s, u32>),
+    Sought(Sought<'s>),
 }
 
 impl Iterator for Targets<'_> {
@@ -26,7 +51,10 @@ impl Iterator for Targets<'_> {
     ghost remaining = { item_count left_targets };
 
     fn next(&mut self) -> Option<u32> {
-        self.laid.next().copied()
+        match self {
+            Targets::Laid(laid) => laid.next().copied(),
+            Targets::Sought(sought) => sought.next(),
+        }
     }
 }
 
@@ -35,10 +63,13 @@ impl<R: AccessRule, W: Watch> Scene<'_, R, W> {
     pub(crate) fn targets(&self, node: u32) -> Targets<'_>
         ensures { left_targets result ≡ targets (counted (program self.now.on.now.recipe.now) self.now.edges.now) node }
     {
-        let laid = self.laid;
+        let Some(laid) = self.laid else {
+            return Targets::Sought(Sought {
+                edges: self.on.recipe.counted(self.edges),
+                node,
+            });
+        };
         let Part { first, end } = *laid.parts.get(node as usize).unwrap_or(&NO_PART);
-        Targets {
-            laid: laid.targets[first..end].iter(),
-        }
+        Targets::Laid(laid.targets[first..end].iter())
     }
 }

@@ -7,6 +7,7 @@ ghost use Rattle.inquiry.specs.Shapes.{Hangs};
 
 mod closing;
 mod digging;
+mod edgeless;
 mod fitting;
 mod inquiring;
 mod joining;

@@ -28,7 +28,12 @@ impl Inquiry<'_> {
     }
 
     // Rule 3: into each entry of the callee.
-    fn enter<R: AccessRule, W: Watch>(&mut self, scene: &Scene<R, W>, call: Placed, callee: u32)
+    pub(crate) fn enter<R: AccessRule, W: Watch>(
+        &mut self,
+        scene: &Scene<R, W>,
+        call: Placed,
+        callee: u32,
+    )
         requires { IsRow self.old call }
         ensures state { state_of self.new ≡ offer_all self.old.places (state_of self.old) (enters (scene_of R.meaning W.watching scene.now) callee call.at call.fact) }
         ensures grown { Grown self.old self.new }
